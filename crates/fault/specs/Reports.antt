@@ -1,0 +1,63 @@
+-- What each fault of a plan record is called: its number, its layer and its three places.
+use mathlib.Core.List.{List, [], _∷_, _++_}
+use Prim.Native.Nat.{ℕ}
+use lib.Chars.{codes}
+use lib.ListN.{getD}
+use Rattle.std.specs.Written.{decimal}
+use Rattle.fault.specs.declared.kinds.Field.{Field}
+use Rattle.fault.specs.declared.kinds.Field.the-variants.{Width, Height, Carriers, Entries}
+use Rattle.fault.specs.declared.kinds.Flaw.{Flaw}
+use Rattle.fault.specs.declared.kinds.Flaw.the-variants.{Carrier, Cell, Neighbour}
+use Rattle.fault.specs.declared.kinds.Conflict.{Conflict}
+use Rattle.fault.specs.declared.kinds.Conflict.the-variants.{Clash, Following}
+use Rattle.fault.specs.declared.kinds.Meeting.{Meeting}
+use Rattle.fault.specs.declared.kinds.RecordFault.{RecordFault}
+use Rattle.fault.specs.declared.kinds.RecordFault.the-variants.{Short, Header, Length}
+use Rattle.fault.specs.declared.kinds.EntryFault.{EntryFault}
+use Rattle.fault.specs.declared.kinds.EntryFault.the-variants.{Record, Flawed}
+use Rattle.fault.specs.declared.kinds.PlanFault.{PlanFault}
+use Rattle.fault.specs.declared.kinds.PlanFault.the-variants.{Entry, Conflict as In-conflict}
+use Rattle.fault.specs.declared.report.Layer.{Layer}
+use Rattle.fault.specs.declared.report.Layer.the-variants.{Record as record-layer, Entry as entry-layer, Plan as plan-layer}
+use Rattle.fault.specs.declared.report.Report.{Report}
+
+-- which of the header's numbers a field is, from 0
+abbrev pub place-of : Field → ℕ
+place-of Width = 0
+place-of Height = 1
+place-of Carriers = 2
+place-of Entries = 3
+
+abbrev pub told : ℕ → Layer → ℕ → ℕ → ℕ → Report
+told n l a b c = record { number = n; layer = l; places = a ∷ b ∷ c ∷ [] }
+
+-- Every fault's number, layer and places. Of a flaw the place is the index of its entry, of a conflict the places are the
+-- step and the two carriers.
+abbrev pub report-of : PlanFault → Report
+report-of (Entry (Record Short)) = told 1 record-layer 0 0 0
+report-of (Entry (Record (Header f))) = told 2 record-layer (place-of f) 0 0
+report-of (Entry (Record Length)) = told 3 record-layer 0 0 0
+report-of (Entry (Flawed Carrier k)) = told 4 entry-layer k 0 0
+report-of (Entry (Flawed Cell k)) = told 5 entry-layer k 0 0
+report-of (Entry (Flawed Neighbour k)) = told 6 entry-layer k 0 0
+report-of (In-conflict Clash m) = told 7 plan-layer (m .step) (m .first) (m .second)
+report-of (In-conflict Following m) = told 8 plan-layer (m .step) (m .first) (m .second)
+
+abbrev pub number-of : PlanFault → ℕ
+number-of f = report-of f .number
+
+-- words with a space between each two
+abbrev pub spaced : List (List ℕ) → List ℕ
+spaced [] = []
+spaced (w ∷ []) = w
+spaced (w ∷ v ∷ vs) = w ++ (codes " " ++ spaced (v ∷ vs))
+
+-- a report as programs print it
+abbrev pub layer-text : Layer → List ℕ
+layer-text record-layer = codes "record"
+layer-text entry-layer = codes "entry"
+layer-text plan-layer = codes "plan"
+
+abbrev pub report-text : Report → List ℕ
+report-text r =
+    spaced (decimal (r .number) ∷ layer-text (r .layer) ∷ decimal (getD (r .places) 0 0) ∷ decimal (getD (r .places) 1 0) ∷ decimal (getD (r .places) 2 0) ∷ [])
