@@ -1,0 +1,4 @@
+pub mod Layout
+pub mod Headers
+pub mod Entries
+pub mod Rows

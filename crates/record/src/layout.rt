@@ -1,0 +1,60 @@
+ghost use mathlib.Core.Path.{_≡_};
+ghost use Prim.Native.Nat.{ℕ, _+_, _*_, _<_, _≤_};
+ghost use lib.ListN.{length, take, drop};
+ghost use Rattle.std.specs.Results.{Cases};
+ghost use Rattle.fault.specs.Firsts.{Verdict};
+ghost use Rattle.record.specs.Layout.{word, header, In-range, Record-applies};
+ghost use Rattle.record.specs.Headers.{Reads-header, record-number};
+use crate::header::Header;
+use fault::kinds::Field;
+use fault::kinds::RecordFault;
+
+/// How many bytes the header takes.
+const HEADER: usize = 8;
+
+/// The number in the two bytes at `at`, the low one first.
+fn word(bytes: &[u8], at: usize) -> u16
+    requires { ⌜ at + 1 < length (now bytes) ⌝ }
+    ensures { λ r. ⌜ r ≡ word (now (bytes .entry)) at ⌝ }
+{
+    u16::from(bytes[at]) + 256 * u16::from(bytes[at + 1])
+}
+
+/// A number of the header, if it is in its range.
+fn number(bytes: &[u8], field: Field) -> Result<u16, RecordFault>
+    requires { ⌜ 8 ≤ length (now bytes) ⌝ }
+    ensures { λ r. ⌜ Cases r (λ n. (n ≡ header (now (bytes .entry)) field) × In-range (now (bytes .entry)) field) (λ e. (e ≡ RecordFault.Header field) × (In-range (now (bytes .entry)) field → ⊥)) ⌝ }
+{
+    let number = word(bytes, 2 * field.place() as usize);
+    let (least, most) = match field {
+        Field::Width | Field::Height => (1, 64),
+        Field::Carriers => (1, 16),
+        Field::Entries => (word(bytes, 4), 512),
+    };
+    if number < least || number > most {
+        return Err(RecordFault::Header(field));
+    }
+    Ok(number)
+}
+
+/// The header of a record that is as long as it says, or what is wrong with the record.
+pub fn read_header(bytes: &[u8]) -> Result<Header, RecordFault>
+    ensures { λ r. ⌜ Verdict record-number (Record-applies (now (bytes .entry))) (Reads-header (now (bytes .entry))) r ⌝ }
+{
+    if bytes.len() < HEADER {
+        return Err(RecordFault::Short);
+    }
+    let width = number(bytes, Field::Width)?;
+    let height = number(bytes, Field::Height)?;
+    let carriers = number(bytes, Field::Carriers)?;
+    let entries = number(bytes, Field::Entries)?;
+    if bytes.len() != HEADER + 3 * entries as usize {
+        return Err(RecordFault::Length);
+    }
+    Ok(Header {
+        width: width as u8,
+        height: height as u8,
+        carriers: carriers as u8,
+        entries,
+    })
+}
