@@ -4,10 +4,14 @@ use mathlib.Core.List.{List}
 use mathlib.Core.Logic.{_⊎_}
 use Prim.Native.Nat.{ℕ, _+_, _-_, _*_, _/_, _%_, _≤_, _<_}
 use lib.ListN.{length, getD}
+use Rattle.std.specs.declared.result.Result.{Result}
+use Rattle.std.specs.declared.result.Result.the-variants.{Ok, Err}
 use Rattle.fault.specs.declared.kinds.Flaw.{Flaw}
 use Rattle.fault.specs.declared.kinds.Flaw.the-variants.{Carrier, Cell, Neighbour}
 use Rattle.fault.specs.declared.kinds.EntryFault.{EntryFault}
 use Rattle.fault.specs.declared.kinds.EntryFault.the-variants.{Record, Flawed}
+use Rattle.fault.specs.declared.kinds.PlanFault.the-variants.{Entry as entry-fault}
+use Rattle.fault.specs.Reports.{number-of}
 use Rattle.fault.specs.Firsts.{First}
 use Rattle.record.specs.declared.entry.Entry.{Entry}
 use Rattle.record.specs.Layout.{Draft, draft, Record-applies}
@@ -39,6 +43,9 @@ Has-flaw d Neighbour k =
     (0 < k) × (k < length (d .entries)) × (entry (d .entries) (k - 1) .carrier ≡ entry (d .entries) k .carrier)
     × (1 < distance (d .width) (entry (d .entries) (k - 1) .cell) (entry (d .entries) k .cell))
 
+abbrev pub entry-number : EntryFault → ℕ
+entry-number f = number-of (entry-fault f)
+
 -- a fault of the entry layer applies to the bytes b
 abbrev pub Entry-applies : List ℕ → EntryFault → Type 0
 Entry-applies b (Record f) = Record-applies b f
@@ -47,3 +54,18 @@ Entry-applies b (Flawed flaw k) = First _<_ (Has-flaw (draft b) flaw) k
 -- entries that nothing is wrong with
 abbrev pub Sound : Draft → Type 0
 Sound d = (flaw : Flaw) (k : ℕ) → Has-flaw d flaw k → ⊥
+
+-- what the search for one flaw answers: no entry has it, or the first that does
+abbrev pub Judged : Draft → Flaw → Result Unit EntryFault → Type 0
+Judged d flaw (Ok u) = (k : ℕ) → Has-flaw d flaw k → ⊥
+Judged d flaw (Err f) = (k : ℕ) × (f ≡ Flawed flaw k) × First _<_ (Has-flaw d flaw) k
+
+-- what the search for all of them answers: nothing is wrong, or the first entry with the flaw that comes first
+abbrev pub flaw-number : Flaw → ℕ
+flaw-number flaw = entry-number (Flawed flaw 0)
+
+abbrev pub Sifted : Draft → Result Unit EntryFault → Type 0
+Sifted d (Ok u) = Sound d
+Sifted d (Err f) =
+    (flaw : Flaw) × (k : ℕ) × (f ≡ Flawed flaw k) × First _<_ (Has-flaw d flaw) k
+    × ((g : Flaw) (j : ℕ) → flaw-number g < flaw-number flaw → Has-flaw d g j → ⊥)

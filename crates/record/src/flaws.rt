@@ -2,12 +2,9 @@ ghost use mathlib.Core.Path.{_≡_};
 ghost use Prim.Native.Nat.{ℕ, _+_, _*_, _<_, _≤_};
 ghost use lib.ListN.{length};
 ghost use Rattle.std.specs.Orderings.{Decides};
-ghost use Rattle.std.specs.Results.{Cases};
-ghost use Rattle.fault.specs.declared.kinds.EntryFault.the-variants.{Flawed};
-ghost use Rattle.fault.specs.declared.kinds.Flaw.the-variants.{Carrier, Cell, Neighbour};
-ghost use Rattle.fault.specs.Firsts.{First};
+ghost use Rattle.fault.specs.declared.kinds.Flaw.the-variants.{Carrier};
 ghost use Rattle.record.specs.Headers.{draft-of};
-ghost use Rattle.record.specs.Entries.{Follows-on, Has-flaw, distance};
+ghost use Rattle.record.specs.Entries.{Follows-on, Has-flaw, Judged, Sifted, distance};
 use crate::entry::Entry;
 use crate::header::Header;
 use fault::kinds::EntryFault;
@@ -73,4 +70,27 @@ fn flawed(header: &Header, entries: &[Entry], flaw: Flaw, k: usize) -> bool
         Flaw::Cell => k < entries.len() && off_floor(header, entries[k].cell),
         Flaw::Neighbour => 0 < k && k < entries.len() && strays(header.width, entries[k - 1], entries[k]),
     }
+}
+
+/// Refuses entries that have the flaw, at the first index where they do.
+fn judge(header: &Header, entries: &[Entry], flaw: Flaw) -> Result<(), EntryFault>
+    requires { ⌜ (0 < length (now entries)) × (length (now entries) ≤ 512) ⌝ }
+    ensures { λ r. ⌜ Judged (draft-of (now (header .entry)) (now (entries .entry))) flaw r ⌝ }
+{
+    for k in 0..=entries.len() {
+        if flawed(header, entries, flaw, k) {
+            return Err(EntryFault::Flawed(flaw, k as u16));
+        }
+    }
+    Ok(())
+}
+
+/// Refuses entries that anything is wrong with.
+pub(crate) fn sift(header: &Header, entries: &[Entry]) -> Result<(), EntryFault>
+    requires { ⌜ (0 < length (now entries)) × (length (now entries) ≤ 512) ⌝ }
+    ensures { λ r. ⌜ Sifted (draft-of (now (header .entry)) (now (entries .entry))) r ⌝ }
+{
+    judge(header, entries, Flaw::Carrier)?;
+    judge(header, entries, Flaw::Cell)?;
+    judge(header, entries, Flaw::Neighbour)
 }

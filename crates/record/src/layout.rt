@@ -10,10 +10,10 @@ use fault::kinds::Field;
 use fault::kinds::RecordFault;
 
 /// How many bytes the header takes.
-const HEADER: usize = 8;
+pub(crate) const HEADER: usize = 8;
 
 /// The number in the two bytes at `at`, the low one first.
-fn word(bytes: &[u8], at: usize) -> u16
+pub(crate) fn word(bytes: &[u8], at: usize) -> u16
     requires { ⌜ at + 1 < length (now bytes) ⌝ }
     ensures { λ r. ⌜ r ≡ word (now (bytes .entry)) at ⌝ }
 {

@@ -5,6 +5,8 @@ ghost use Rattle.record.specs.Entries.{Sound};
 use crate::entry::Entry;
 use crate::header::Header;
 
+pub mod reads;
+
 /// The most entries that a record has.
 pub const ROOM: usize = 512;
 

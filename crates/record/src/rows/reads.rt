@@ -1,0 +1,52 @@
+ghost use mathlib.Core.Path.{_≡_};
+ghost use mathlib.Core.List.{map};
+ghost use Prim.Native.Nat.{ℕ, _+_, _*_, _<_, _≤_};
+ghost use lib.ListN.{length, take};
+ghost use Rattle.std.specs.Iters.{counting};
+ghost use Rattle.fault.specs.Firsts.{Verdict};
+ghost use Rattle.record.specs.Layout.{draft, entry-at};
+ghost use Rattle.record.specs.Headers.{Reads-header};
+ghost use Rattle.record.specs.Entries.{entry-number, Entry-applies};
+ghost use Rattle.record.specs.Rows.{said};
+use crate::entry::Entry;
+use crate::flaws::sift;
+use crate::header::Header;
+use crate::layout::HEADER;
+use crate::layout::read_header;
+use crate::layout::word;
+use super::Rows;
+use fault::kinds::EntryFault;
+use fault::kinds::EntryFromRecord;
+
+/// The entries of a record whose header is read, with room for the most that there can be.
+fn load(bytes: &[u8], header: &Header) -> [Entry; 512]
+    requires { ⌜ Reads-header (now bytes) (now header) × (length (now bytes) ≡ 8 + 3 * now header .entries) ⌝ }
+    ensures room { λ r. ⌜ length r ≡ 512 ⌝ }
+    ensures read { λ r. ⌜ take (now (header .entry) .entries) r ≡ draft (now (bytes .entry)) .entries ⌝ }
+{
+    let count = header.entries as usize;
+    let mut entries = [Entry {
+        carrier: 0,
+        cell: 0,
+    }; 512];
+    for k in 0..count {
+        entries[k] = Entry {
+            carrier: bytes[HEADER + k],
+            cell: word(bytes, HEADER + count + 2 * k),
+        };
+    }
+    entries
+}
+
+/// The rows of a record, or what is wrong with it.
+pub fn read_rows(bytes: &[u8]) -> Result<Rows, EntryFault>
+    ensures { λ r. ⌜ Verdict entry-number (Entry-applies (now (bytes .entry))) (λ rows. said rows ≡ draft (now (bytes .entry))) r ⌝ }
+{
+    let header = read_header(bytes)?;
+    let entries = load(bytes, &header);
+    sift(&header, &entries[0..header.entries as usize])?;
+    Ok(Rows {
+        header,
+        entries,
+    })
+}
