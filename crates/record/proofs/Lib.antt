@@ -1,1 +1,3 @@
 pub mod Layers
+pub mod Steps
+pub mod Sound

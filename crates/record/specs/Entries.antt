@@ -16,8 +16,11 @@ use Rattle.fault.specs.Firsts.{First}
 use Rattle.record.specs.declared.entry.Entry.{Entry}
 use Rattle.record.specs.Layout.{Draft, draft, Record-applies}
 
+abbrev pub no-entry : Entry
+no-entry = record { carrier = 0; cell = 0 }
+
 abbrev pub entry : List Entry → ℕ → Entry
-entry es k = getD es k (record { carrier = 0; cell = 0 })
+entry es k = getD es k no-entry
 
 -- the first carrier number is 0, and each later one is that of the entry before it or one more
 abbrev pub Follows-on : List Entry → ℕ → Type 0

@@ -6,6 +6,7 @@ use crate::entry::Entry;
 use crate::header::Header;
 
 pub mod reads;
+pub mod steps;
 
 /// The most entries that a record has.
 pub const ROOM: usize = 512;
