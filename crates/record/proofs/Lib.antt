@@ -1,3 +1,4 @@
 pub mod Layers
 pub mod Steps
 pub mod Sound
+pub mod Visits

@@ -23,8 +23,11 @@ cell d i t = at-step (row (d .entries) i) t
 
 -- A visit is an entry whose cell differs from the carrier's entry before it, or its first entry.
 abbrev pub visit-at : List ℕ → ℕ → Bool
-visit-at r t = eqb t 0 || not (eqb (getD r t 0) (getD r (t - 1) 0))
+visit-at r t = eqb t 0 || not (eqb (getD r (t - 1) 0) (getD r t 0))
+
+abbrev pub visit-count : List ℕ → ℕ
+visit-count r = countBy (visit-at r) (counting 0 (length r))
 
 -- how many visits carrier i makes
 abbrev pub visits : Draft → ℕ → ℕ
-visits d i = countBy (visit-at (row (d .entries) i)) (counting 0 (length (row (d .entries) i)))
+visits d i = visit-count (row (d .entries) i)

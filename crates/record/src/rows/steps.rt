@@ -1,11 +1,14 @@
 ghost use mathlib.Core.Path.{_≡_};
 ghost use mathlib.Core.List.{map};
+ghost use mathlib.Core.Bool.{true, not};
 ghost use Prim.Native.Nat.{ℕ, _<_, _≤_};
+ghost use lib.Dec.{eqb};
 ghost use lib.ListN.{length};
 ghost use Rattle.std.specs.Iters.{counting};
+ghost use Rattle.std.specs.Options.{Cases};
 ghost use Rattle.record.specs.Entries.{entry};
 ghost use Rattle.record.specs.Rows.{said};
-ghost use Rattle.record.specs.Steps.{row, at-step, cell, visits};
+ghost use Rattle.record.specs.Steps.{row, at-step, cell, visits, visit-count};
 use super::Rows;
 use crate::entry::Entry;
 use crate::header::Header;
@@ -28,6 +31,32 @@ fn cells_in(entries: &[Entry], step: u16) -> [u16; 16]
     cells
 }
 
+/// Whether a carrier that was in the cell `last`, if it was in any, enters `cell` anew.
+fn enters(last: Option<u16>, cell: u16) -> bool
+    ensures { λ r. ⌜ Cases last (r ≡ true) (λ before. r ≡ not (eqb before cell)) ⌝ }
+{
+    match last {
+        Some(before) => before != cell,
+        None => true,
+    }
+}
+
+/// How many of the carrier's entries are visits.
+fn visits_in(entries: &[Entry], carrier: u8) -> u16
+    requires { ⌜ length (now entries) ≤ 512 ⌝ }
+    ensures { λ r. ⌜ r ≡ visit-count (row (now (entries .entry)) carrier) ⌝ }
+{
+    let mut count = 0;
+    let mut last = None;
+    for entry in entries {
+        if entry.carrier == carrier {
+            count += u16::from(enters(last, entry.cell));
+            last = Some(entry.cell);
+        }
+    }
+    count
+}
+
 impl Rows {
     /// The record's header.
     pub fn header(&self) -> Header
@@ -48,5 +77,12 @@ impl Rows {
         ensures { λ r. ⌜ r ≡ map (λ i. cell (said (now (self .entry))) i step) (counting 0 16) ⌝ }
     {
         cells_in(self.entries(), step)
+    }
+
+    /// How many visits a carrier makes, 0 for a carrier that the plan lacks.
+    pub fn visits(&self, carrier: u8) -> u16
+        ensures { λ r. ⌜ r ≡ visits (said (now (self .entry))) carrier ⌝ }
+    {
+        visits_in(self.entries(), carrier)
     }
 }
