@@ -3,7 +3,7 @@ ghost use Prim.Native.Nat.{ℕ, _+_, _*_, _<_, _≤_};
 ghost use lib.ListN.{length, take, drop};
 ghost use Rattle.std.specs.Results.{Cases};
 ghost use Rattle.fault.specs.Firsts.{Verdict};
-ghost use Rattle.record.specs.Layout.{word, header, In-range, Record-applies};
+ghost use Rattle.record.specs.Layout.{word, header, stated-length, In-range, Record-applies};
 ghost use Rattle.record.specs.Headers.{Reads-header, record-number};
 use crate::header::Header;
 use fault::kinds::Field;
@@ -57,4 +57,17 @@ pub fn read_header(bytes: &[u8]) -> Result<Header, RecordFault>
         carriers: carriers as u8,
         entries,
     })
+}
+
+/// The record at the front of some bytes, as long as its header says, and what follows it. Where
+/// the bytes end before that, all of them are the record.
+pub fn split_record(bytes: &[u8]) -> (&[u8], &[u8])
+    ensures front { λ r. ⌜ now (r .0) ≡ take (stated-length (now (bytes .entry))) (now (bytes .entry)) ⌝ }
+    ensures rest { λ r. ⌜ now (r .1) ≡ drop (stated-length (now (bytes .entry))) (now (bytes .entry)) ⌝ }
+{
+    let mut end = bytes.len();
+    if end >= HEADER {
+        end = end.min(HEADER + 3 * word(bytes, 6) as usize);
+    }
+    bytes.split_at(end)
 }
