@@ -1,0 +1,12 @@
+ghost use Rattle.record.specs.Rows.{said};
+ghost use Rattle.plan.specs.Conflicts.{Clear};
+use record::rows::Rows;
+
+pub mod reads;
+
+/// A plan that nothing is wrong with.
+#[derive(Clone, Copy)]
+pub struct Plan {
+    rows: Rows,
+    ghost clear: { Clear (said rows) },
+}

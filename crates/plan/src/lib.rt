@@ -1,0 +1,3 @@
+//! Accepted plans: rows in which no two carriers are ever in conflict.
+pub mod accepted;
+mod conflicts;
