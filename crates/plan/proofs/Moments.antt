@@ -33,8 +33,8 @@ shows-part d t n cells all few e =
     record {
       all = ap length (part ∙ ap (take (d .carriers)) e) ∙ length-take-le (d .carriers) _ few;
       each = λ i h.
-        ap (λ x. getD x i 0) part ∙ getD-take (d .carriers) cells i 0 h ∙ ap (λ x. getD x i 0) e
-        ∙ getD-map-counting (λ k. cell d k t) 0 16 i i 0 (omega arith) (omega arith);
+          ap (λ x. getD x i 0) part ∙ getD-take (d .carriers) cells i 0 h ∙ ap (λ x. getD x i 0) e
+          ∙ getD-map-counting (λ k. cell d k t) 0 16 i i 0 (omega arith) (omega arith);
     }
 
 -- what the cells at a step and at the step before show of two carriers
@@ -44,10 +44,14 @@ module _ (d : Draft) (t : ℕ) (earlier later : List ℕ) (was : Shows d (t - 1)
 
   pub meets-so : (kind : Conflict) (i j : ℕ) → i < d .carriers → j < d .carriers → Meets kind earlier later i j → In-conflict d kind (at i j)
   meets-so Clash i j hi hj (l, e) = (l, hj, sym (now .each i hi) ∙ e ∙ now .each j hj)
-  meets-so Following i j hi hj (n, e, moved) =
-      (⊎-elim (λ z. absurd (moved (still z))) (λ p. p) (cases-lt t 1), hi, hj, n,
-       sym (now .each i hi) ∙ e ∙ was .each j hj,
-       λ same. moved (now .each i hi ∙ same ∙ sym (was .each i hi)))
+  meets-so Following i j hi hj (n, e, moved) = (
+    ⊎-elim (λ z. absurd (moved (still z))) (λ p. p) (cases-lt t 1),
+    hi,
+    hj,
+    n,
+    sym (now .each i hi) ∙ e ∙ was .each j hj,
+    λ same. moved (now .each i hi ∙ same ∙ sym (was .each i hi)),
+  )
     where
       still : t < 1 → getD later i 0 ≡ getD earlier i 0
       still z = let e : t ≡ t - 1 = omega arith in now .each i hi ∙ ap (cell d i) e ∙ sym (was .each i hi)

@@ -58,7 +58,11 @@ pub(crate) fn soonest(rows: &Rows, kind: Conflict) -> Option<Meeting>
     for step in 0..header.entries {
         let earlier = rows.cells_at(step.saturating_sub(1));
         let later = rows.cells_at(step);
-        if let Some((first, second)) = lowest_pair(kind, &earlier[0..carriers], &later[0..carriers]) {
+        if let Some((first, second)) = lowest_pair(
+            kind,
+            &earlier[0..carriers],
+            &later[0..carriers],
+        ) {
             return Some(Meeting {
                 step,
                 first: first as u8,

@@ -68,10 +68,11 @@ module _ (es : List Entry) (k : ℕ) (within : k < length es) (t : ℕ) (cells s
   Tracks i = (getD (set seen c (getD seen c 0 + 1)) i 0 ≡ length (row (take (k + 1) es) i)) × (getD after i 0 ≡ at-step (row (take (k + 1) es) i) t)
 
   own-tracks : Tracks c
-  own-tracks =
-      (getD-set-same seen c (getD seen c 0 + 1) 0 (omega (arith, r .1))
-       ∙ ap (λ n. n + 1) (r .2 c low .0) ∙ sym (length-push _ _) ∙ ap length (sym (row-own es k within c refl)),
-       now kept ∙ ap (λ x. at-step x t) (sym (row-own es k within c refl)))
+  own-tracks = (
+    getD-set-same seen c (getD seen c 0 + 1) 0 (omega (arith, r .1))
+        ∙ ap (λ n. n + 1) (r .2 c low .0) ∙ sym (length-push _ _) ∙ ap length (sym (row-own es k within c refl)),
+    now kept ∙ ap (λ x. at-step x t) (sym (row-own es k within c refl)),
+  )
     where
       now : Kept (entry es k) t cells seen after → getD after c 0 ≡ at-step (row (take k es) c ++ entry es k .cell ∷ []) t
       now (inl (h, e)) =
@@ -82,9 +83,10 @@ module _ (es : List Entry) (k : ℕ) (within : k < length es) (t : ℕ) (cells s
           ∙ sym (step-passed (row (take k es) c) (entry es k .cell) t (omega (arith, r .2 c low .0)))
 
   other-tracks : (i : ℕ) → i < 16 → (c ≡ i → ⊥) → Tracks i
-  other-tracks i h n =
-      (getD-set-other seen c i (getD seen c 0 + 1) 0 (λ e. n (sym e)) ∙ r .2 i h .0 ∙ ap length (sym (row-other es k within i n)),
-       now kept ∙ r .2 i h .1 ∙ ap (λ x. at-step x t) (sym (row-other es k within i n)))
+  other-tracks i h n = (
+    getD-set-other seen c i (getD seen c 0 + 1) 0 (λ e. n (sym e)) ∙ r .2 i h .0 ∙ ap length (sym (row-other es k within i n)),
+    now kept ∙ r .2 i h .1 ∙ ap (λ x. at-step x t) (sym (row-other es k within i n)),
+  )
     where
       now : Kept (entry es k) t cells seen after → getD after i 0 ≡ getD cells i 0
       now (inl (l, e)) = ap (λ x. getD x i 0) e ∙ getD-set-other cells c i (entry es k .cell) 0 (λ e. n (sym e))

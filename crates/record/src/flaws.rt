@@ -68,7 +68,9 @@ fn flawed(header: &Header, entries: &[Entry], flaw: Flaw, k: usize) -> bool
     match flaw {
         Flaw::Carrier => misnumbered(header, entries, k),
         Flaw::Cell => k < entries.len() && off_floor(header, entries[k].cell),
-        Flaw::Neighbour => 0 < k && k < entries.len() && strays(header.width, entries[k - 1], entries[k]),
+        Flaw::Neighbour => 0 < k
+            && k < entries.len()
+            && strays(header.width, entries[k - 1], entries[k]),
     }
 }
 

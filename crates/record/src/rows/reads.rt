@@ -8,13 +8,13 @@ ghost use Rattle.record.specs.Layout.{draft, entry-at};
 ghost use Rattle.record.specs.Headers.{Reads-header};
 ghost use Rattle.record.specs.Entries.{entry-number, Entry-applies};
 ghost use Rattle.record.specs.Rows.{said};
+use super::Rows;
 use crate::entry::Entry;
 use crate::flaws::sift;
 use crate::header::Header;
 use crate::layout::HEADER;
 use crate::layout::read_header;
 use crate::layout::word;
-use super::Rows;
 use fault::kinds::EntryFault;
 use fault::kinds::EntryFromRecord;
 
@@ -45,8 +45,5 @@ pub fn read_rows(bytes: &[u8]) -> Result<Rows, EntryFault>
     let header = read_header(bytes)?;
     let entries = load(bytes, &header);
     sift(&header, &entries[0..header.entries as usize])?;
-    Ok(Rows {
-        header,
-        entries,
-    })
+    Ok(Rows { header, entries })
 }

@@ -20,10 +20,10 @@ returns c =
     let b = c .args .bytes .now in
     let n = stated-length b in
     let end : c .if-end-ge-HEADER .end ≡ min (length b) n =
-      elim (c .if-end-ge-HEADER .came) [
-        | then-end-ge-HEADER w ↦ w .end-is ∙ w .min-end .ensures ∙ ap (λ x. min (length b) (8 + 3 * x)) (w .word .ensures)
-        | else-end-ge-HEADER w ↦ omega (arith, w .end-is, w .if-end-ge-HEADER .left)
-      ] in
+    elim (c .if-end-ge-HEADER .came) [
+      | then-end-ge-HEADER w ↦ w .end-is ∙ w .min-end .ensures ∙ ap (λ x. min (length b) (8 + 3 * x)) (w .word .ensures)
+      | else-end-ge-HEADER w ↦ omega (arith, w .end-is, w .if-end-ge-HEADER .left)
+    ] in
     record {
       front = c .split-at .ensures .front ∙ ap (λ m. take m b) end ∙ within (λ m. take m b) (length b) n (λ k l. take-all k b l ∙ sym (take-all _ b (omega arith)));
       rest = c .split-at .ensures .back ∙ ap (λ m. drop m b) end ∙ within (λ m. drop m b) (length b) n (λ k l. drop-all k b l ∙ sym (drop-all _ b (omega arith)));

@@ -25,7 +25,7 @@ loop-entry-again c =
     let es = c .args .entries .now in
     let in-list : k < length es = omega arith in
     let kept : Kept (entry es k) (c .args .step) (c .loop-entry .cells) (c .loop-entry .seen) (c .if-seen-carrier .cells) =
-      elim (c .if-seen-carrier .came) [ then-seen-carrier w ↦ inl (w .if-seen-carrier .taken, w .cells-is) | else-seen-carrier w ↦ inr (w .if-seen-carrier .left, w .cells-is) ] in
+    elim (c .if-seen-carrier .came) [ then-seen-carrier w ↦ inl (w .if-seen-carrier .taken, w .cells-is) | else-seen-carrier w ↦ inr (w .if-seen-carrier .left, w .cells-is) ] in
     reached-more es k in-list _ _ _ _ (c .pre .known k in-list) (c .loop-entry .inv) kept
 
 pub returns : need.returns

@@ -24,13 +24,14 @@ loop-entry-again c =
     let in-list : k < length es = omega arith in
     elim (c .if-entry-carrier .came) [
       | then-entry-carrier w ↦
-        let own = row-own es k in-list (c .args .carrier) (w .if-entry-carrier .taken) in
-        let more = visits-more (row (take k es) (c .args .carrier)) (entry es k .cell) _ _ (c .loop-entry .inv .1) (w .enters .ensures) in
-        (w .count-is ∙ (λ i. c .loop-entry .inv .0 i + w .from-count .ensures i) ∙ sym more ∙ ap visit-count (sym own),
-         rw (w .last-is, own) (last-more _ _))
+          let own = row-own es k in-list (c .args .carrier) (w .if-entry-carrier .taken) in
+          let more = visits-more (row (take k es) (c .args .carrier)) (entry es k .cell) _ _ (c .loop-entry .inv .1) (w .enters .ensures) in (
+            w .count-is ∙ (λ i. c .loop-entry .inv .0 i + w .from-count .ensures i) ∙ sym more ∙ ap visit-count (sym own),
+            rw (w .last-is, own) (last-more _ _),
+          )
       | else-entry-carrier w ↦
-        let other = row-other es k in-list (c .args .carrier) (w .if-entry-carrier .left) in
-        (w .count-is ∙ c .loop-entry .inv .0 ∙ ap visit-count (sym other), rw (w .last-is) (subst (λ r. Last r (c .loop-entry .last)) (sym other) (c .loop-entry .inv .1)))
+          let other = row-other es k in-list (c .args .carrier) (w .if-entry-carrier .left) in
+          (w .count-is ∙ c .loop-entry .inv .0 ∙ ap visit-count (sym other), rw (w .last-is) (subst (λ r. Last r (c .loop-entry .last)) (sym other) (c .loop-entry .inv .1)))
     ]
 
 pub returns : need.returns

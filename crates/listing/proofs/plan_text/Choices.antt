@@ -1,0 +1,12 @@
+use mathlib.Core.Path.{_≡_}
+use mathlib.Core.List.{_++_}
+use Rattle.std.specs.Iters.{counting}
+use Rattle.std.specs.Joined.{joined}
+use Rattle.std.specs.Of.String.{string-bytes}
+use Rattle.record.specs.Rows.{said}
+use Rattle.listing.specs.Texts.{plan-line, carrier-line}
+use Rattle.listing.proofs.plan_text.Given as given
+
+abbrev pub Inv-loop-carrier : given.InvT-loop-carrier
+Inv-loop-carrier l =
+    string-bytes (l .text) ≡ plan-line (said (l .rows)) ++ joined (carrier-line (said (l .rows))) (counting 0 (l .carrier))
