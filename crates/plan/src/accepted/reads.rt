@@ -1,9 +1,5 @@
 ghost use mathlib.Core.Path.{_≡_};
-ghost use Rattle.fault.specs.Reports.{number-of};
-ghost use Rattle.fault.specs.Firsts.{Verdict};
-ghost use Rattle.record.specs.Layout.{draft};
-ghost use Rattle.plan.specs.Conflicts.{Applies};
-ghost use Rattle.plan.specs.Plans.{drawn};
+ghost use Rattle.plan.specs.Plans.{Reads, Only};
 use super::Plan;
 use crate::conflicts::soonest;
 use fault::kinds::Conflict;
@@ -13,9 +9,11 @@ use record::rows::Rows;
 use record::rows::reads::read_rows;
 
 impl Plan {
-    /// The plan in a record's bytes, or the first fault of the record.
+    /// The plan in a record's bytes, or the first fault of the record; nothing else would be an
+    /// answer.
     pub fn read(bytes: &[u8]) -> Result<Plan, PlanFault>
-        ensures { λ r. ⌜ Verdict number-of (Applies (now (bytes .entry))) (λ plan. drawn plan ≡ draft (now (bytes .entry))) r ⌝ }
+        ensures read { λ r. ⌜ Reads (now (bytes .entry)) r ⌝ }
+        ensures only { λ r. ⌜ Only (now (bytes .entry)) r ⌝ }
     {
         let rows = read_rows(bytes)?;
         if let Some(meeting) = soonest(&rows, Conflict::Clash) {
