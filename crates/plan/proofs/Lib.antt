@@ -1,2 +1,3 @@
 pub mod Moments
 pub mod Only
+pub mod Verdicts

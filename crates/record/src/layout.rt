@@ -65,9 +65,11 @@ pub fn split_record(bytes: &[u8]) -> (&[u8], &[u8])
     ensures front { λ r. ⌜ now (r .0) ≡ take (stated-length (now (bytes .entry))) (now (bytes .entry)) ⌝ }
     ensures rest { λ r. ⌜ now (r .1) ≡ drop (stated-length (now (bytes .entry))) (now (bytes .entry)) ⌝ }
 {
-    let mut end = bytes.len();
-    if end >= HEADER {
-        end = end.min(HEADER + 3 * word(bytes, 6) as usize);
+    if bytes.len() >= HEADER {
+        let end = HEADER + 3 * word(bytes, 6) as usize;
+        if end <= bytes.len() {
+            return bytes.split_at(end);
+        }
     }
-    bytes.split_at(end)
+    bytes.split_at(bytes.len())
 }

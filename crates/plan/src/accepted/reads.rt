@@ -1,5 +1,5 @@
 ghost use mathlib.Core.Path.{_≡_};
-ghost use Rattle.plan.specs.Plans.{Reads, Only};
+ghost use Rattle.plan.specs.Plans.{Accepted, Reads, Only};
 use super::Plan;
 use crate::conflicts::soonest;
 use fault::kinds::Conflict;
@@ -8,6 +8,20 @@ use fault::kinds::PlanFromEntry;
 use record::rows::Rows;
 use record::rows::reads::read_rows;
 
+/// The plan of some rows, unless two carriers are in conflict; clashes come before following
+/// conflicts.
+fn accept(rows: Rows) -> Result<Plan, PlanFault>
+    ensures { λ r. ⌜ Accepted rows r ⌝ }
+{
+    if let Some(meeting) = soonest(&rows, Conflict::Clash) {
+        return Err(PlanFault::Conflict(Conflict::Clash, meeting));
+    }
+    if let Some(meeting) = soonest(&rows, Conflict::Following) {
+        return Err(PlanFault::Conflict(Conflict::Following, meeting));
+    }
+    Ok(Plan { rows })
+}
+
 impl Plan {
     /// The plan in a record's bytes, or the first fault of the record; nothing else would be an
     /// answer.
@@ -15,14 +29,7 @@ impl Plan {
         ensures read { λ r. ⌜ Reads (now (bytes .entry)) r ⌝ }
         ensures only { λ r. ⌜ Only (now (bytes .entry)) r ⌝ }
     {
-        let rows = read_rows(bytes)?;
-        if let Some(meeting) = soonest(&rows, Conflict::Clash) {
-            return Err(PlanFault::Conflict(Conflict::Clash, meeting));
-        }
-        if let Some(meeting) = soonest(&rows, Conflict::Following) {
-            return Err(PlanFault::Conflict(Conflict::Following, meeting));
-        }
-        Ok(Plan { rows })
+        accept(read_rows(bytes)?)
     }
 
     /// The rows of the plan.
