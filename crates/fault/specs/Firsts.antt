@@ -1,4 +1,4 @@
--- Which of several is named: the first, in an order that is said.
+-- Which of several is named: the first, in an order that is rows-draft.
 use mathlib.Core.Path.{_≡_}
 use Prim.Native.Nat.{ℕ, _<_}
 use Rattle.std.specs.declared.result.Result.{Result}

@@ -3,11 +3,12 @@ ghost use Prim.Native.Nat.{_≤_};
 ghost use Rattle.std.specs.Vec.{made};
 ghost use lib.ListN.{length};
 use listing::list;
+use record::MAX_ENTRIES;
 use std::io;
 use std::io::Read;
 
 /// The longest record and the most call bytes.
-const ROOM: usize = 8 + 3 * 512 + 4096;
+const ROOM: usize = 8 + 3 * MAX_ENTRIES + 4096;
 
 /// Reads until the input ends or `buffer` is full, and says how much was read.
 fn fill<R: Read>(input: &mut R, buffer: &mut [u8]) -> io::Result<usize>

@@ -2,7 +2,7 @@
 ghost use mathlib.Core.Path.{_≡_};
 ghost use Rattle.std.specs.Of.String.{string-bytes};
 ghost use Rattle.std.specs.Vec.{made};
-ghost use Rattle.record.specs.Rows.{said};
+ghost use Rattle.record.specs.Rows.{rows-draft};
 ghost use Rattle.listing.specs.Texts.{plan-line, carrier-line, refusal-line, plan-text, Listed};
 use fault::kinds::PlanFault;
 use fault::report::ReportDisplay;
@@ -13,7 +13,7 @@ use std::alloc::AllocError;
 use std::alloc::Global;
 
 fn plan_line(heap: Global, rows: &Rows) -> Result<String, AllocError>
-    ensures { λ r. ⌜ made r (λ s. string-bytes s ≡ plan-line (said (now (rows .entry)))) ⌝ }
+    ensures { λ r. ⌜ made r (λ s. string-bytes s ≡ plan-line (rows-draft (now (rows .entry)))) ⌝ }
 {
     let header = rows.header();
     let width = header.width;
@@ -24,7 +24,7 @@ fn plan_line(heap: Global, rows: &Rows) -> Result<String, AllocError>
 }
 
 fn carrier_line(heap: Global, rows: &Rows, carrier: u8) -> Result<String, AllocError>
-    ensures { λ r. ⌜ made r (λ s. string-bytes s ≡ carrier-line (said (now (rows .entry))) carrier) ⌝ }
+    ensures { λ r. ⌜ made r (λ s. string-bytes s ≡ carrier-line (rows-draft (now (rows .entry))) carrier) ⌝ }
 {
     let visits = rows.visits(carrier);
     format!(heap, "carrier {carrier} visits {visits}\n")
@@ -39,7 +39,7 @@ fn refusal_line(heap: Global, fault: PlanFault) -> Result<String, AllocError>
 
 /// The lines of a plan.
 fn plan_text(heap: Global, rows: &Rows) -> Result<String, AllocError>
-    ensures { λ r. ⌜ made r (λ s. string-bytes s ≡ plan-text (said (now (rows .entry)))) ⌝ }
+    ensures { λ r. ⌜ made r (λ s. string-bytes s ≡ plan-text (rows-draft (now (rows .entry)))) ⌝ }
 {
     let mut text = plan_line(heap, rows)?;
     for carrier in 0..rows.header().carriers {

@@ -21,12 +21,11 @@ use Rattle.fault.specs.declared.kinds.PlanFault.the-variants.{Entry, Conflict a
 use Rattle.fault.specs.Reports.{number-of}
 use Rattle.fault.specs.Firsts.{First, Sooner}
 use Rattle.fault.proofs.Unique.{first-is-one, fields-total, meetings-total}
-use Rattle.record.specs.Layout.{draft, Record-applies}
+use Rattle.record.specs.Layout.{Draft, draft, Record-applies}
 use Rattle.record.specs.Headers.{record-number}
 use Rattle.record.specs.Entries.{Has-flaw, entry-number, Entry-applies}
-use Rattle.plan.specs.declared.accepted.Plan.{Plan}
 use Rattle.plan.specs.Conflicts.{In-conflict, Applies}
-use Rattle.plan.specs.Plans.{Reads, Same}
+use Rattle.plan.specs.Plans.{Judged}
 
 -- what the numbers tell apart
 flaw-at : ℕ → Flaw
@@ -98,10 +97,10 @@ module _ (b : List ℕ) where
       let t : m ≡ n = first-is-one Sooner meetings-total _ m n p (subst (λ x. First Sooner (In-conflict (draft b) x) n) s q) in
       λ i. Conflicting (sym s i) (t i)
 
-  pub only : (r s : Result Plan PlanFault) → Reads b r → Reads b s → Same r s
-  only (Ok p) (Ok q) x y = x .0 ∙ sym (y .0)
-  only (Ok p) (Err g) x y = x .1 g (y .0)
-  only (Err f) (Ok q) x y = y .1 f (x .0)
+  pub only : (v w : Result Draft PlanFault) → Judged b v → Judged b w → w ≡ v
+  only (Ok d) (Ok e) x y = ap Ok (y .0 ∙ sym (x .0))
+  only (Ok d) (Err g) x y = absurd (x .1 g (y .0))
+  only (Err f) (Ok e) x y = absurd (y .1 f (x .0))
   only (Err f) (Err g) x y =
-      ⊎-elim (λ e. same-fault f g e (x .0) (y .0)) (⊎-elim (λ l. absurd (y .1 f l (x .0))) (λ l. absurd (x .1 g l (y .0))))
-      (cases-order (number-of f) (number-of g))
+      ⊎-elim (λ e. ap Err (same-fault g f e (y .0) (x .0))) (⊎-elim (λ l. absurd (x .1 g l (y .0))) (λ l. absurd (y .1 f l (x .0))))
+      (cases-order (number-of g) (number-of f))

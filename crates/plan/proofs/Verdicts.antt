@@ -16,29 +16,29 @@ use Rattle.fault.specs.Firsts.{First, Sooner}
 use Rattle.record.specs.declared.rows.Rows.{Rows}
 use Rattle.record.specs.Layout.{Draft, draft}
 use Rattle.record.specs.Entries.{Entry-applies}
-use Rattle.record.specs.Rows.{said}
+use Rattle.record.specs.Rows.{rows-draft}
 use Rattle.plan.specs.declared.accepted.Plan.{Plan}
 use Rattle.plan.specs.Conflicts.{In-conflict, Applies}
-use Rattle.plan.specs.Plans.{Accepted, Reads}
+use Rattle.plan.specs.Plans.{Accepted, told, Judged}
 
-module _ (b : List ℕ) (rows : Rows) (same : said rows ≡ draft b) (sound : (f : EntryFault) → Entry-applies b f → ⊥) where
-  first-of : (kind : Conflict) (m : Meeting) → First Sooner (In-conflict (said rows) kind) m → First Sooner (In-conflict (draft b) kind) m
+module _ (b : List ℕ) (rows : Rows) (same : rows-draft rows ≡ draft b) (sound : (f : EntryFault) → Entry-applies b f → ⊥) where
+  first-of : (kind : Conflict) (m : Meeting) → First Sooner (In-conflict (rows-draft rows) kind) m → First Sooner (In-conflict (draft b) kind) m
   first-of kind m p = let P : Draft → Type 0 = λ d. First Sooner (In-conflict d kind) m in subst P same p
 
-  pub accepted-reads : (r : Result Plan PlanFault) → Accepted rows r → Reads b r
-  accepted-reads (Ok p) a = (ap said a ∙ same, none)
+  pub accepted-judged : (r : Result Plan PlanFault) → Accepted rows r → Judged b (told r)
+  accepted-judged (Ok p) a = (ap rows-draft a ∙ same, none)
     where
       none : (f : PlanFault) → Applies b f → ⊥
       none (Entry f) x = sound f x
-      none (Conflicting kind m) x = p .clear kind m (subst (λ d. In-conflict d kind m) (sym (ap said a ∙ same)) (x .0))
-  accepted-reads (Err (Entry f)) a = absurd a
-  accepted-reads (Err (Conflicting Clash m)) a = (first-of Clash m a, before)
+      none (Conflicting kind m) x = p .clear kind m (subst (λ d. In-conflict d kind m) (sym (ap rows-draft a ∙ same)) (x .0))
+  accepted-judged (Err (Entry f)) a = absurd a
+  accepted-judged (Err (Conflicting Clash m)) a = (first-of Clash m a, before)
     where
       before : (f : PlanFault) → number-of f < 7 → Applies b f → ⊥
       before (Entry f) l x = sound f x
       before (Conflicting Clash n) l x = omega arith
       before (Conflicting Following n) l x = omega arith
-  accepted-reads (Err (Conflicting Following m)) (a, apart) = (first-of Following m a, before)
+  accepted-judged (Err (Conflicting Following m)) (a, apart) = (first-of Following m a, before)
     where
       before : (f : PlanFault) → number-of f < 8 → Applies b f → ⊥
       before (Entry f) l x = sound f x

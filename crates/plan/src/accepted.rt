@@ -1,4 +1,4 @@
-ghost use Rattle.record.specs.Rows.{said};
+ghost use Rattle.record.specs.Rows.{rows-draft};
 ghost use Rattle.plan.specs.Conflicts.{Clear};
 use record::rows::Rows;
 
@@ -8,5 +8,5 @@ pub mod reads;
 #[derive(Clone, Copy)]
 pub struct Plan {
     rows: Rows,
-    ghost clear: { Clear (said rows) },
+    ghost clear: { Clear (rows-draft rows) },
 }

@@ -2,7 +2,7 @@ ghost use mathlib.Core.Path.{_≡_};
 ghost use Prim.Native.Nat.{ℕ, _<_, _≤_};
 ghost use lib.ListN.{length};
 ghost use Rattle.std.specs.Orderings.{Decides};
-ghost use Rattle.record.specs.Rows.{said};
+ghost use Rattle.record.specs.Rows.{rows-draft};
 ghost use Rattle.plan.specs.Searches.{Meets, Lowest, Lowest-pair, Soonest};
 use fault::kinds::Conflict;
 use fault::kinds::Meeting;
@@ -51,7 +51,7 @@ fn lowest_pair(kind: Conflict, earlier: &[u16], later: &[u16]) -> Option<(usize,
 /// The soonest conflict of a kind. Every carrier rests from step E on, where E is how many entries
 /// there are, so that nothing new happens then.
 pub(crate) fn soonest(rows: &Rows, kind: Conflict) -> Option<Meeting>
-    ensures { λ r. ⌜ Soonest (said (now (rows .entry))) kind r ⌝ }
+    ensures { λ r. ⌜ Soonest (rows-draft (now (rows .entry))) kind r ⌝ }
 {
     let header = rows.header();
     let carriers = header.carriers as usize;

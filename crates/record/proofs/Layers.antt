@@ -17,7 +17,7 @@ use Rattle.record.specs.declared.entry.Entry.{Entry}
 use Rattle.record.specs.declared.header.Header.{Header}
 use Rattle.record.specs.Layout.{Draft, draft, Record-applies}
 use Rattle.record.specs.Headers.{Reads-header, draft-of}
-use Rattle.record.specs.Entries.{Has-flaw, Judged, Sifted, entry-number, flaw-number, Entry-applies, Sound}
+use Rattle.record.specs.Entries.{Has-flaw, Judged, Validated, entry-number, flaw-number, Entry-applies, Sound}
 
 pub same-unless : (a b : ℕ) → ((a ≡ b → ⊥) → ⊥) → a ≡ b
 same-unless a b h = ⊎-elim (λ e. e) (λ n. absurd (h n)) (cases-eq a b)
@@ -32,14 +32,14 @@ module _ (d : Draft) where
   before-cell numbered Cell j l a = omega arith
   before-cell numbered Neighbour j l a = omega arith
 
-  pub last-sifted : (r : Result Unit EntryFault) → ((k : ℕ) → Has-flaw d Carrier k → ⊥) → ((k : ℕ) → Has-flaw d Cell k → ⊥) → Judged d Neighbour r → Sifted d r
-  last-sifted (Ok u) numbered placed near = sound
+  pub last-validated : (r : Result Unit EntryFault) → ((k : ℕ) → Has-flaw d Carrier k → ⊥) → ((k : ℕ) → Has-flaw d Cell k → ⊥) → Judged d Neighbour r → Validated d r
+  last-validated (Ok u) numbered placed near = sound
     where
       sound : Sound d
       sound Carrier = numbered
       sound Cell = placed
       sound Neighbour = near
-  last-sifted (Err f) numbered placed (k, e, first) = (Neighbour, k, e, first, before)
+  last-validated (Err f) numbered placed (k, e, first) = (Neighbour, k, e, first, before)
     where
       before : (g : Flaw) (j : ℕ) → flaw-number g < 6 → Has-flaw d g j → ⊥
       before Carrier j l a = numbered j a
@@ -52,12 +52,12 @@ flaw-is Cell k = refl
 flaw-is Neighbour k = refl
 
 module _ (b : List ℕ) (bytes-sound : (f : RecordFault) → Record-applies b f → ⊥) where
-  first-of-flaws : (f : EntryFault) → Sifted (draft b) (Err f) → First (By entry-number) (Entry-applies b) f
+  first-of-flaws : (f : EntryFault) → Validated (draft b) (Err f) → First (By entry-number) (Entry-applies b) f
   first-of-flaws f (flaw, k, e, first, lower) = rw e (first, before)
     where
       before : (g : EntryFault) → entry-number g < entry-number (Flawed flaw k) → Entry-applies b g → ⊥
       before (Record g) l a = bytes-sound g a
       before (Flawed g j) l a = lower g j (omega (arith, flaw-is g j, flaw-is flaw k)) (a .0)
 
-  pub sifted-first : (d : Draft) (f : EntryFault) → d ≡ draft b → Sifted d (Err f) → First (By entry-number) (Entry-applies b) f
-  sifted-first d f e s = first-of-flaws f (let P : Draft → Type 0 = λ x. Sifted x (Err f) in subst P e s)
+  pub validated-first : (d : Draft) (f : EntryFault) → d ≡ draft b → Validated d (Err f) → First (By entry-number) (Entry-applies b) f
+  validated-first d f e s = first-of-flaws f (let P : Draft → Type 0 = λ x. Validated x (Err f) in subst P e s)

@@ -10,17 +10,17 @@ use Rattle.fault.specs.declared.kinds.Flaw.the-variants.{Carrier}
 use Rattle.record.specs.declared.rows.Rows.{Rows}
 use Rattle.record.specs.Layout.{Draft}
 use Rattle.record.specs.Entries.{entry, Sound}
-use Rattle.record.specs.Rows.{said}
+use Rattle.record.specs.Rows.{rows-draft}
 
 pub carrier-known : (d : Draft) → Sound d → (k : ℕ) → k < length (d .entries) → entry (d .entries) k .carrier < d .carriers
 carrier-known d sound k h = ⊎-elim (λ l. l) (λ l. absurd (sound Carrier k (inl (h, inr l)))) (cases-lt (entry (d .entries) k .carrier) (d .carriers))
 
 module _ (r : Rows) where
-  pub said-length : length (said r .entries) ≡ r .header .entries
-  said-length = length-take-le _ _ (omega (arith, r .room, r .header .listed))
+  pub draft-length : length (rows-draft r .entries) ≡ r .header .entries
+  draft-length = length-take-le _ _ (omega (arith, r .room, r .header .listed))
 
-  pub said-few : length (said r .entries) ≤ 512
-  said-few = omega (arith, said-length, r .header .listed)
+  pub draft-few : length (rows-draft r .entries) ≤ 512
+  draft-few = omega (arith, draft-length, r .header .listed)
 
-  pub said-known : (k : ℕ) → k < length (said r .entries) → entry (said r .entries) k .carrier < 16
-  said-known k h = omega (arith, carrier-known (said r) (r .sound) k h, r .header .manned)
+  pub draft-known : (k : ℕ) → k < length (rows-draft r .entries) → entry (rows-draft r .entries) k .carrier < 16
+  draft-known k h = omega (arith, carrier-known (rows-draft r) (r .sound) k h, r .header .manned)

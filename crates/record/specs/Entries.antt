@@ -67,8 +67,8 @@ Judged d flaw (Err f) = (k : ℕ) × (f ≡ Flawed flaw k) × First _<_ (Has-fla
 abbrev pub flaw-number : Flaw → ℕ
 flaw-number flaw = entry-number (Flawed flaw 0)
 
-abbrev pub Sifted : Draft → Result Unit EntryFault → Type 0
-Sifted d (Ok u) = Sound d
-Sifted d (Err f) =
+abbrev pub Validated : Draft → Result Unit EntryFault → Type 0
+Validated d (Ok u) = Sound d
+Validated d (Err f) =
     (flaw : Flaw) × (k : ℕ) × (f ≡ Flawed flaw k) × First _<_ (Has-flaw d flaw) k
     × ((g : Flaw) (j : ℕ) → flaw-number g < flaw-number flaw → Has-flaw d g j → ⊥)

@@ -2,7 +2,7 @@
 use mathlib.Core.Path.{_≡_}
 use mathlib.Core.List.{List, map}
 use Prim.Native.Nat.{ℕ, _+_, _*_, _≤_, _<_}
-use lib.ListN.{length, getD}
+use lib.ListN.{length, getD, take, drop}
 use Rattle.std.specs.Iters.{counting}
 use Rattle.fault.specs.declared.kinds.Field.{Field}
 use Rattle.fault.specs.declared.kinds.Field.the-variants.{Width, Height, Carriers, Entries}
@@ -43,6 +43,13 @@ draft b =
 -- how long the header says that the record is
 abbrev pub stated-length : List ℕ → ℕ
 stated-length b = 8 + 3 * header b Entries
+
+-- the record at the front of b, and what follows it
+abbrev pub front : List ℕ → List ℕ
+front b = take (stated-length b) b
+
+abbrev pub rest : List ℕ → List ℕ
+rest b = drop (stated-length b) b
 
 abbrev pub In-range : List ℕ → Field → Type 0
 In-range b Width = (1 ≤ header b Width) × (header b Width ≤ 64)

@@ -4,5 +4,5 @@ use Rattle.record.specs.declared.rows.Rows.{Rows}
 use Rattle.record.specs.Layout.{Draft}
 use Rattle.record.specs.Headers.{draft-of}
 
-abbrev pub said : Rows → Draft
-said r = draft-of (r .header) (take (r .header .entries) (r .entries))
+abbrev pub rows-draft : Rows → Draft
+rows-draft r = draft-of (r .header) (take (r .header .entries) (r .entries))

@@ -4,7 +4,7 @@ ghost use lib.ListN.{length};
 ghost use Rattle.std.specs.Orderings.{Decides};
 ghost use Rattle.fault.specs.declared.kinds.Flaw.the-variants.{Carrier};
 ghost use Rattle.record.specs.Headers.{draft-of};
-ghost use Rattle.record.specs.Entries.{Follows-on, Has-flaw, Judged, Sifted, distance};
+ghost use Rattle.record.specs.Entries.{Follows-on, Has-flaw, Judged, Validated, distance};
 use crate::entry::Entry;
 use crate::header::Header;
 use fault::kinds::EntryFault;
@@ -88,9 +88,9 @@ fn judge(header: &Header, entries: &[Entry], flaw: Flaw) -> Result<(), EntryFaul
 }
 
 /// Refuses entries that anything is wrong with.
-pub(crate) fn sift(header: &Header, entries: &[Entry]) -> Result<(), EntryFault>
+pub(crate) fn validate(header: &Header, entries: &[Entry]) -> Result<(), EntryFault>
     requires { ⌜ (0 < length (now entries)) × (length (now entries) ≤ 512) ⌝ }
-    ensures { λ r. ⌜ Sifted (draft-of (now (header .entry)) (now (entries .entry))) r ⌝ }
+    ensures { λ r. ⌜ Validated (draft-of (now (header .entry)) (now (entries .entry))) r ⌝ }
 {
     judge(header, entries, Flaw::Carrier)?;
     judge(header, entries, Flaw::Cell)?;

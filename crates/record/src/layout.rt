@@ -1,10 +1,12 @@
 ghost use mathlib.Core.Path.{_≡_};
 ghost use Prim.Native.Nat.{ℕ, _+_, _*_, _<_, _≤_};
-ghost use lib.ListN.{length, take, drop};
+ghost use lib.ListN.{length};
 ghost use Rattle.std.specs.Results.{Cases};
 ghost use Rattle.fault.specs.Firsts.{Verdict};
-ghost use Rattle.record.specs.Layout.{word, header, stated-length, In-range, Record-applies};
+ghost use Rattle.record.specs.Layout.{word, header, front, rest, In-range, Record-applies};
 ghost use Rattle.record.specs.Headers.{Reads-header, record-number};
+use crate::MAX_CARRIERS;
+use crate::MAX_ENTRIES;
 use crate::header::Header;
 use fault::kinds::Field;
 use fault::kinds::RecordFault;
@@ -28,8 +30,8 @@ fn number(bytes: &[u8], field: Field) -> Result<u16, RecordFault>
     let number = word(bytes, 2 * field.place() as usize);
     let (least, most) = match field {
         Field::Width | Field::Height => (1, 64),
-        Field::Carriers => (1, 16),
-        Field::Entries => (word(bytes, 4), 512),
+        Field::Carriers => (1, MAX_CARRIERS as u16),
+        Field::Entries => (word(bytes, 4), MAX_ENTRIES as u16),
     };
     if number < least || number > most {
         return Err(RecordFault::Header(field));
@@ -37,33 +39,11 @@ fn number(bytes: &[u8], field: Field) -> Result<u16, RecordFault>
     Ok(number)
 }
 
-/// The header of a record that is as long as it says, or what is wrong with the record.
-pub fn read_header(bytes: &[u8]) -> Result<Header, RecordFault>
-    ensures { λ r. ⌜ Verdict record-number (Record-applies (now (bytes .entry))) (Reads-header (now (bytes .entry))) r ⌝ }
-{
-    if bytes.len() < HEADER {
-        return Err(RecordFault::Short);
-    }
-    let width = number(bytes, Field::Width)?;
-    let height = number(bytes, Field::Height)?;
-    let carriers = number(bytes, Field::Carriers)?;
-    let entries = number(bytes, Field::Entries)?;
-    if bytes.len() != HEADER + 3 * entries as usize {
-        return Err(RecordFault::Length);
-    }
-    Ok(Header {
-        width: width as u8,
-        height: height as u8,
-        carriers: carriers as u8,
-        entries,
-    })
-}
-
 /// The record at the front of some bytes, as long as its header says, and what follows it. Where
 /// the bytes end before that, all of them are the record.
 pub fn split_record(bytes: &[u8]) -> (&[u8], &[u8])
-    ensures front { λ r. ⌜ now (r .0) ≡ take (stated-length (now (bytes .entry))) (now (bytes .entry)) ⌝ }
-    ensures rest { λ r. ⌜ now (r .1) ≡ drop (stated-length (now (bytes .entry))) (now (bytes .entry)) ⌝ }
+    ensures before { λ r. ⌜ now (r .0) ≡ front (now (bytes .entry)) ⌝ }
+    ensures after { λ r. ⌜ now (r .1) ≡ rest (now (bytes .entry)) ⌝ }
 {
     if bytes.len() >= HEADER {
         let end = HEADER + 3 * word(bytes, 6) as usize;
@@ -72,4 +52,28 @@ pub fn split_record(bytes: &[u8]) -> (&[u8], &[u8])
         }
     }
     bytes.split_at(bytes.len())
+}
+
+impl Header {
+    /// The header of a record that is as long as it says, or what is wrong with the record.
+    pub fn read(bytes: &[u8]) -> Result<Header, RecordFault>
+        ensures { λ r. ⌜ Verdict record-number (Record-applies (now (bytes .entry))) (Reads-header (now (bytes .entry))) r ⌝ }
+    {
+        if bytes.len() < HEADER {
+            return Err(RecordFault::Short);
+        }
+        let width = number(bytes, Field::Width)?;
+        let height = number(bytes, Field::Height)?;
+        let carriers = number(bytes, Field::Carriers)?;
+        let entries = number(bytes, Field::Entries)?;
+        if bytes.len() != HEADER + 3 * entries as usize {
+            return Err(RecordFault::Length);
+        }
+        Ok(Header {
+            width: width as u8,
+            height: height as u8,
+            carriers: carriers as u8,
+            entries,
+        })
+    }
 }

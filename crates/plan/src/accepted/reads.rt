@@ -1,12 +1,11 @@
 ghost use mathlib.Core.Path.{_≡_};
-ghost use Rattle.plan.specs.Plans.{Accepted, Reads, Only};
+ghost use Rattle.plan.specs.Plans.{Accepted, told, Judged, Only};
 use super::Plan;
 use crate::conflicts::soonest;
 use fault::kinds::Conflict;
 use fault::kinds::PlanFault;
 use fault::kinds::PlanFromEntry;
 use record::rows::Rows;
-use record::rows::reads::read_rows;
 
 /// The plan of some rows, unless two carriers are in conflict; clashes come before following
 /// conflicts.
@@ -26,10 +25,10 @@ impl Plan {
     /// The plan in a record's bytes, or the first fault of the record; nothing else would be an
     /// answer.
     pub fn read(bytes: &[u8]) -> Result<Plan, PlanFault>
-        ensures read { λ r. ⌜ Reads (now (bytes .entry)) r ⌝ }
-        ensures only { λ r. ⌜ Only (now (bytes .entry)) r ⌝ }
+        ensures judged { λ r. ⌜ Judged (now (bytes .entry)) (told r) ⌝ }
+        ensures only { λ r. ⌜ Only (now (bytes .entry)) (told r) ⌝ }
     {
-        accept(read_rows(bytes)?)
+        accept(Rows::read(bytes)?)
     }
 
     /// The rows of the plan.

@@ -7,19 +7,19 @@ ghost use Rattle.fault.specs.Firsts.{Verdict};
 ghost use Rattle.record.specs.Layout.{draft, entry-at};
 ghost use Rattle.record.specs.Headers.{Reads-header};
 ghost use Rattle.record.specs.Entries.{entry-number, Entry-applies};
-ghost use Rattle.record.specs.Rows.{said};
+ghost use Rattle.record.specs.Rows.{rows-draft};
 use super::Rows;
+use crate::MAX_ENTRIES;
 use crate::entry::Entry;
-use crate::flaws::sift;
+use crate::flaws::validate;
 use crate::header::Header;
 use crate::layout::HEADER;
-use crate::layout::read_header;
 use crate::layout::word;
 use fault::kinds::EntryFault;
 use fault::kinds::EntryFromRecord;
 
 /// The entries of a record whose header is read, with room for the most that there can be.
-fn load(bytes: &[u8], header: &Header) -> [Entry; 512]
+fn load(bytes: &[u8], header: &Header) -> [Entry; MAX_ENTRIES]
     requires { ⌜ Reads-header (now bytes) (now header) × (length (now bytes) ≡ 8 + 3 * now header .entries) ⌝ }
     ensures room { λ r. ⌜ length r ≡ 512 ⌝ }
     ensures read { λ r. ⌜ take (now (header .entry) .entries) r ≡ draft (now (bytes .entry)) .entries ⌝ }
@@ -28,7 +28,7 @@ fn load(bytes: &[u8], header: &Header) -> [Entry; 512]
     let mut entries = [Entry {
         carrier: 0,
         cell: 0,
-    }; 512];
+    }; MAX_ENTRIES];
     for k in 0..count {
         entries[k] = Entry {
             carrier: bytes[HEADER + k],
@@ -38,12 +38,14 @@ fn load(bytes: &[u8], header: &Header) -> [Entry; 512]
     entries
 }
 
-/// The rows of a record, or what is wrong with it.
-pub fn read_rows(bytes: &[u8]) -> Result<Rows, EntryFault>
-    ensures { λ r. ⌜ Verdict entry-number (Entry-applies (now (bytes .entry))) (λ rows. said rows ≡ draft (now (bytes .entry))) r ⌝ }
-{
-    let header = read_header(bytes)?;
-    let entries = load(bytes, &header);
-    sift(&header, &entries[0..header.entries as usize])?;
-    Ok(Rows { header, entries })
+impl Rows {
+    /// The rows of a record, or what is wrong with it.
+    pub fn read(bytes: &[u8]) -> Result<Rows, EntryFault>
+        ensures { λ r. ⌜ Verdict entry-number (Entry-applies (now (bytes .entry))) (λ rows. rows-draft rows ≡ draft (now (bytes .entry))) r ⌝ }
+    {
+        let header = Header::read(bytes)?;
+        let entries = load(bytes, &header);
+        validate(&header, &entries[0..header.entries as usize])?;
+        Ok(Rows { header, entries })
+    }
 }

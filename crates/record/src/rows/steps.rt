@@ -7,20 +7,21 @@ ghost use lib.ListN.{length};
 ghost use Rattle.std.specs.Iters.{counting};
 ghost use Rattle.std.specs.Options.{Cases};
 ghost use Rattle.record.specs.Entries.{entry};
-ghost use Rattle.record.specs.Rows.{said};
+ghost use Rattle.record.specs.Rows.{rows-draft};
 ghost use Rattle.record.specs.Steps.{row, at-step, cell, visits, visit-count};
 use super::Rows;
+use crate::MAX_CARRIERS;
 use crate::entry::Entry;
 use crate::header::Header;
 
 /// The cell of each carrier at a step, 0 for a carrier without entries.
-fn cells_in(entries: &[Entry], step: u16) -> [u16; 16]
+fn cells_in(entries: &[Entry], step: u16) -> [u16; MAX_CARRIERS]
     requires few { ⌜ length (now entries) ≤ 512 ⌝ }
     requires known { ⌜ ((k : ℕ) → k < length (now entries) → entry (now entries) k .carrier < 16) ⌝ }
     ensures { λ r. ⌜ r ≡ map (λ i. at-step (row (now (entries .entry)) i) step) (counting 0 16) ⌝ }
 {
-    let mut cells = [0; 16];
-    let mut seen = [0u16; 16];
+    let mut cells = [0; MAX_CARRIERS];
+    let mut seen = [0u16; MAX_CARRIERS];
     for entry in entries {
         let carrier = entry.carrier as usize;
         if seen[carrier] <= step {
@@ -31,12 +32,12 @@ fn cells_in(entries: &[Entry], step: u16) -> [u16; 16]
     cells
 }
 
-/// Whether a carrier that was in the cell `last`, if it was in any, enters `cell` anew.
-fn enters(last: Option<u16>, cell: u16) -> bool
-    ensures { λ r. ⌜ Cases last (r ≡ true) (λ before. r ≡ not (eqb before cell)) ⌝ }
+/// Whether a carrier that was in the cell `last`, if it was in any, enters `next` anew.
+fn enters(last: Option<u16>, next: u16) -> bool
+    ensures { λ r. ⌜ Cases last (r ≡ true) (λ before. r ≡ not (eqb before next)) ⌝ }
 {
     match last {
-        Some(before) => before != cell,
+        Some(before) => before != next,
         None => true,
     }
 }
@@ -67,21 +68,21 @@ impl Rows {
 
     /// The entries, in the order of the record.
     pub fn entries(&self) -> &[Entry]
-        ensures { λ r. ⌜ now r ≡ said (now (self .entry)) .entries ⌝ }
+        ensures { λ r. ⌜ now r ≡ rows-draft (now (self .entry)) .entries ⌝ }
     {
         &self.entries[0..self.header.entries as usize]
     }
 
     /// The cell of each carrier at a step, 0 for a carrier that the plan lacks.
-    pub fn cells_at(&self, step: u16) -> [u16; 16]
-        ensures { λ r. ⌜ r ≡ map (λ i. cell (said (now (self .entry))) i step) (counting 0 16) ⌝ }
+    pub fn cells_at(&self, step: u16) -> [u16; MAX_CARRIERS]
+        ensures { λ r. ⌜ r ≡ map (λ i. cell (rows-draft (now (self .entry))) i step) (counting 0 16) ⌝ }
     {
         cells_in(self.entries(), step)
     }
 
     /// How many visits a carrier makes, 0 for a carrier that the plan lacks.
     pub fn visits(&self, carrier: u8) -> u16
-        ensures { λ r. ⌜ r ≡ visits (said (now (self .entry))) carrier ⌝ }
+        ensures { λ r. ⌜ r ≡ visits (rows-draft (now (self .entry))) carrier ⌝ }
     {
         visits_in(self.entries(), carrier)
     }

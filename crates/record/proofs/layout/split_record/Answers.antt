@@ -16,6 +16,6 @@ returns c =
       | else-bytes-ge-HEADER w ↦ omega (arith, w .if-bytes-ge-HEADER .left)
     ] in
     record {
-      front = c .split-at-2 .ensures .front ∙ take-all _ b (omega arith) ∙ sym (take-all _ b short);
-      rest = c .split-at-2 .ensures .back ∙ drop-all _ b (omega arith) ∙ sym (drop-all _ b short);
+      before = c .split-at-2 .ensures .front ∙ take-all _ b (omega arith) ∙ sym (take-all _ b short);
+      after = c .split-at-2 .ensures .back ∙ drop-all _ b (omega arith) ∙ sym (drop-all _ b short);
     }

@@ -1,7 +1,7 @@
 use Rattle.std.proofs.shelf.Results.{err-from-errBy}
 use Rattle.fault.specs.declared.kinds.Flaw.the-variants.{Cell}
-use Rattle.record.proofs.Layers.{before-cell, last-sifted}
-use Rattle.record.proofs.flaws.sift.Needs as need
+use Rattle.record.proofs.Layers.{before-cell, last-validated}
+use Rattle.record.proofs.flaws.validate.Needs as need
 
 pub returns-in-Break-judge-2 : need.returns-in-Break-judge-2
 returns-in-Break-judge-2 c =
@@ -10,4 +10,4 @@ returns-in-Break-judge-2 c =
     rw (p .1, p .2) (Cell, k, e, first, before-cell _ (c .in-Continue-judge .ensures tt))
 
 pub returns : need.returns
-returns c = last-sifted _ _ (c .in-Continue-judge .ensures tt) (c .in-Continue-judge-2 .ensures tt) (c .judge-3 .ensures)
+returns c = last-validated _ _ (c .in-Continue-judge .ensures tt) (c .in-Continue-judge-2 .ensures tt) (c .judge-3 .ensures)
