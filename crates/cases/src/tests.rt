@@ -1,4 +1,3 @@
-use super::record;
 use listing::list;
 use plan::accepted::Plan;
 use std::alloc::AllocError;
@@ -14,7 +13,7 @@ struct Case {
     text: &'static str,
 }
 
-static CASES: [Case; 37] = [
+static CASES: [Case; 38] = [
     Case {
         about: "the example",
         header: [3, 3, 2, 8],
@@ -136,6 +135,13 @@ static CASES: [Case; 37] = [
     },
     Case {
         about: "sixteen carriers",
+        header: [4, 4, 16, 16],
+        carriers: &[0, 1, 2, 3, 4, 5, 6, 7, 8, 9, 10, 11, 12, 13, 14, 15],
+        cells: &[0, 1, 2, 3, 4, 5, 6, 7, 8, 9, 10, 11, 12, 13, 14, 15],
+        text: "plan 4 4 16 16\ncarrier 0 visits 1\ncarrier 1 visits 1\ncarrier 2 visits 1\ncarrier 3 visits 1\ncarrier 4 visits 1\ncarrier 5 visits 1\ncarrier 6 visits 1\ncarrier 7 visits 1\ncarrier 8 visits 1\ncarrier 9 visits 1\ncarrier 10 visits 1\ncarrier 11 visits 1\ncarrier 12 visits 1\ncarrier 13 visits 1\ncarrier 14 visits 1\ncarrier 15 visits 1\n",
+    },
+    Case {
+        about: "the last two carriers clash",
         header: [16, 1, 16, 16],
         carriers: &[0, 1, 2, 3, 4, 5, 6, 7, 8, 9, 10, 11, 12, 13, 14, 15],
         cells: &[0, 1, 2, 3, 4, 5, 6, 7, 8, 9, 10, 11, 12, 13, 14, 14],
@@ -275,6 +281,33 @@ static CASES: [Case; 37] = [
         text: "refused 6 entry 1 0 0\n",
     },
 ];
+
+/// Adds a number in two bytes, the low one first.
+fn push_word(bytes: &mut Vec<u8>, word: u16) -> Result<(), AllocError> {
+    bytes.push((word & 0xff) as u8)?;
+    bytes.push((word >> 8) as u8)?;
+    Ok(())
+}
+
+/// The bytes of a record: the header, the carrier numbers, the cells.
+fn record(
+    heap: Global,
+    header: [u16; 4],
+    carriers: &[u8],
+    cells: &[u16],
+) -> Result<Vec<u8>, AllocError> {
+    let mut bytes = Vec::new(heap);
+    for number in header {
+        push_word(&mut bytes, number)?;
+    }
+    for carrier in carriers {
+        bytes.push(*carrier)?;
+    }
+    for cell in cells {
+        push_word(&mut bytes, *cell)?;
+    }
+    Ok(bytes)
+}
 
 #[test]
 fn records_are_listed(rt: LibcRuntime) -> Result<(), Fail> {

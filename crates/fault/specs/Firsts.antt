@@ -1,4 +1,4 @@
--- Which of several is named: the first, in an order that is rows-draft.
+-- Which of several is named: the first, in a given order.
 use mathlib.Core.Path.{_≡_}
 use Prim.Native.Nat.{ℕ, _<_}
 use Rattle.std.specs.declared.result.Result.{Result}

@@ -16,7 +16,7 @@ use Rattle.fault.specs.declared.kinds.RecordFault.the-variants.{Short, Header,
 use Rattle.fault.specs.declared.kinds.EntryFault.{EntryFault}
 use Rattle.fault.specs.declared.kinds.EntryFault.the-variants.{Record, Flawed}
 use Rattle.fault.specs.declared.kinds.PlanFault.{PlanFault}
-use Rattle.fault.specs.declared.kinds.PlanFault.the-variants.{Entry, Conflict as In-conflict}
+use Rattle.fault.specs.declared.kinds.PlanFault.the-variants.{Entry, Conflict as Conflicting}
 use Rattle.fault.specs.declared.report.Layer.{Layer}
 use Rattle.fault.specs.declared.report.Layer.the-variants.{Record as record-layer, Entry as entry-layer, Plan as plan-layer}
 use Rattle.fault.specs.declared.report.Report.{Report}
@@ -28,20 +28,20 @@ place-of Height = 1
 place-of Carriers = 2
 place-of Entries = 3
 
-abbrev pub told : ℕ → Layer → ℕ → ℕ → ℕ → Report
-told n l a b c = record { number = n; layer = l; places = a ∷ b ∷ c ∷ [] }
+abbrev pub report : ℕ → Layer → ℕ → ℕ → ℕ → Report
+report n l a b c = record { number = n; layer = l; places = a ∷ b ∷ c ∷ [] }
 
 -- Every fault's number, layer and places. Of a flaw the place is the index of its entry, of a conflict the places are the
 -- step and the two carriers.
 abbrev pub report-of : PlanFault → Report
-report-of (Entry (Record Short)) = told 1 record-layer 0 0 0
-report-of (Entry (Record (Header f))) = told 2 record-layer (place-of f) 0 0
-report-of (Entry (Record Length)) = told 3 record-layer 0 0 0
-report-of (Entry (Flawed Carrier k)) = told 4 entry-layer k 0 0
-report-of (Entry (Flawed Cell k)) = told 5 entry-layer k 0 0
-report-of (Entry (Flawed Neighbour k)) = told 6 entry-layer k 0 0
-report-of (In-conflict Clash m) = told 7 plan-layer (m .step) (m .first) (m .second)
-report-of (In-conflict Following m) = told 8 plan-layer (m .step) (m .first) (m .second)
+report-of (Entry (Record Short)) = report 1 record-layer 0 0 0
+report-of (Entry (Record (Header f))) = report 2 record-layer (place-of f) 0 0
+report-of (Entry (Record Length)) = report 3 record-layer 0 0 0
+report-of (Entry (Flawed Carrier k)) = report 4 entry-layer k 0 0
+report-of (Entry (Flawed Cell k)) = report 5 entry-layer k 0 0
+report-of (Entry (Flawed Neighbour k)) = report 6 entry-layer k 0 0
+report-of (Conflicting Clash m) = report 7 plan-layer (m .step) (m .first) (m .second)
+report-of (Conflicting Following m) = report 8 plan-layer (m .step) (m .first) (m .second)
 
 abbrev pub number-of : PlanFault → ℕ
 number-of f = report-of f .number

@@ -25,11 +25,11 @@ pub enum RecordFault {
 /// What can be wrong with one entry.
 #[derive(Clone, Copy, PartialEq, Eq, Debug)]
 pub enum Flaw {
-    /// the carrier numbers break off here
+    /// the carrier number is out of turn or too high; past the last entry, the last is too low
     Carrier,
     /// the cell is not on the floor
     Cell,
-    /// the cell is neither the one before it nor beside that
+    /// the cell is neither that of the carrier's entry before nor beside it
     Neighbour,
 }
 

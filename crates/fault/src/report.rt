@@ -40,13 +40,15 @@ impl Field {
     }
 }
 
-fn tell(number: u8, layer: Layer, places: [u16; 3]) -> Report
-    ensures { λ r. ⌜ r ≡ record { number = number; layer = layer; places = places } ⌝ }
-{
-    Report {
-        number,
-        layer,
-        places,
+impl Report {
+    fn new(number: u8, layer: Layer, places: [u16; 3]) -> Report
+        ensures { λ r. ⌜ r ≡ record { number = number; layer = layer; places = places } ⌝ }
+    {
+        Report {
+            number,
+            layer,
+            places,
+        }
     }
 }
 
@@ -57,28 +59,28 @@ impl PlanFault {
     {
         match *self {
             PlanFault::Entry(EntryFault::Record(RecordFault::Short)) => {
-                tell(1, Layer::Record, [0, 0, 0])
+                Report::new(1, Layer::Record, [0, 0, 0])
             }
             PlanFault::Entry(EntryFault::Record(RecordFault::Header(field))) => {
-                tell(2, Layer::Record, [field.place(), 0, 0])
+                Report::new(2, Layer::Record, [field.place(), 0, 0])
             }
             PlanFault::Entry(EntryFault::Record(RecordFault::Length)) => {
-                tell(3, Layer::Record, [0, 0, 0])
+                Report::new(3, Layer::Record, [0, 0, 0])
             }
             PlanFault::Entry(EntryFault::Flawed(Flaw::Carrier, index)) => {
-                tell(4, Layer::Entry, [index, 0, 0])
+                Report::new(4, Layer::Entry, [index, 0, 0])
             }
             PlanFault::Entry(EntryFault::Flawed(Flaw::Cell, index)) => {
-                tell(5, Layer::Entry, [index, 0, 0])
+                Report::new(5, Layer::Entry, [index, 0, 0])
             }
             PlanFault::Entry(EntryFault::Flawed(Flaw::Neighbour, index)) => {
-                tell(6, Layer::Entry, [index, 0, 0])
+                Report::new(6, Layer::Entry, [index, 0, 0])
             }
             PlanFault::Conflict(kind, at) => {
                 let places = [at.step, u16::from(at.first), u16::from(at.second)];
                 match kind {
-                    Conflict::Clash => tell(7, Layer::Plan, places),
-                    Conflict::Following => tell(8, Layer::Plan, places),
+                    Conflict::Clash => Report::new(7, Layer::Plan, places),
+                    Conflict::Following => Report::new(8, Layer::Plan, places),
                 }
             }
         }

@@ -1,19 +1,19 @@
 -- What floorlist prints.
 use mathlib.Core.Path.{_≡_}
 use mathlib.Core.List.{List, [], _∷_, _++_}
-use mathlib.Core.Logic.{_⊎_}
 use Prim.Native.Nat.{ℕ}
 use lib.Chars.{codes}
 use lib.ListN.{length}
 use Rattle.std.specs.Iters.{counting}
 use Rattle.std.specs.Joined.{joined}
 use Rattle.std.specs.Written.{decimal}
+use Rattle.std.specs.declared.result.Result.{Result}
+use Rattle.std.specs.declared.result.Result.the-variants.{Ok, Err}
 use Rattle.fault.specs.declared.kinds.PlanFault.{PlanFault}
-use Rattle.fault.specs.Firsts.{First, By}
-use Rattle.fault.specs.Reports.{number-of, report-of, report-text}
-use Rattle.record.specs.Layout.{Draft, draft, front}
+use Rattle.fault.specs.Reports.{report-of, report-text}
+use Rattle.record.specs.Layout.{Draft, front}
 use Rattle.record.specs.Steps.{visits}
-use Rattle.plan.specs.Conflicts.{Applies}
+use Rattle.plan.specs.Plans.{Judged}
 
 -- words with a space between each two, and the line's end
 abbrev pub line : List (List ℕ) → List ℕ
@@ -35,8 +35,10 @@ refusal-line f = line (codes "refused" ∷ report-text (report-of f) ∷ [])
 abbrev pub plan-text : Draft → List ℕ
 plan-text d = plan-line d ++ joined (carrier-line d) (counting 0 (d .carriers))
 
--- the text for the input b: of the plan where no fault applies to its record, or of the first fault that does
+abbrev pub verdict-text : Result Draft PlanFault → List ℕ
+verdict-text (Ok d) = plan-text d
+verdict-text (Err f) = refusal-line f
+
+-- the text for the input b is that of the verdict on the record at its front
 abbrev pub Listed : List ℕ → List ℕ → Type 0
-Listed b text =
-    ((text ≡ plan-text (draft (front b))) × ((f : PlanFault) → Applies (front b) f → ⊥))
-    ⊎ ((f : PlanFault) × (text ≡ refusal-line f) × First (By number-of) (Applies (front b)) f)
+Listed b text = (v : Result Draft PlanFault) × Judged (front b) v × (text ≡ verdict-text v)

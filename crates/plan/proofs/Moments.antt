@@ -17,8 +17,8 @@ use Rattle.fault.specs.declared.kinds.Meeting.{Meeting}
 use Rattle.fault.specs.Firsts.{First, Sooner}
 use Rattle.fault.specs.Firsts.Sooner.{by-step, by-first, by-second}
 use Rattle.record.specs.Layout.{Draft}
-use Rattle.record.specs.Steps.{row, cell}
-use Rattle.record.proofs.Steps.{row-le}
+use Rattle.record.specs.Steps.{path, cell}
+use Rattle.record.proofs.Steps.{path-le}
 use Rattle.plan.specs.Conflicts.{In-conflict}
 use Rattle.plan.specs.Searches.{Meets, Lowest-pair, Soonest}
 
@@ -87,11 +87,11 @@ module _ (d : Draft) (t : ℕ) (earlier later : List ℕ) (was : Shows d (t - 1)
             lower (m .second) l (subst (λ k. Meets kind earlier later k (m .second)) f x)
 
 module _ (d : Draft) where
-  -- from the last step of every row on, nothing moves
+  -- from the last step of every path on, nothing moves
   rests : (i s t : ℕ) → length (d .entries) ≤ s + 1 → s ≤ t → cell d i t ≡ cell d i s
   rests i s t h l =
-      let r = row (d .entries) i in
-      let e : min t (length r - 1) ≡ min s (length r - 1) = omega (arith, row-le (d .entries) i) in
+      let r = path (d .entries) i in
+      let e : min t (length r - 1) ≡ min s (length r - 1) = omega (arith, path-le (d .entries) i) in
       ap (λ k. getD r k 0) e
 
   pub none-ever : (kind : Conflict) → 0 < length (d .entries) → ((m : Meeting) → m .step < length (d .entries) → In-conflict d kind m → ⊥) → (m : Meeting) → In-conflict d kind m → ⊥

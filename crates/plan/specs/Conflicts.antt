@@ -24,8 +24,8 @@ In-conflict d Following m =
     × (cell d (m .first) (m .step) ≡ cell d (m .first) (m .step - 1) → ⊥)
 
 -- no two carriers are ever in conflict
-abbrev pub Clear : Draft → Type 0
-Clear d = (kind : Conflict) (m : Meeting) → In-conflict d kind m → ⊥
+abbrev pub Conflict-free : Draft → Type 0
+Conflict-free d = (kind : Conflict) (m : Meeting) → In-conflict d kind m → ⊥
 
 -- a fault applies to the bytes b
 abbrev pub Applies : List ℕ → PlanFault → Type 0

@@ -11,22 +11,22 @@ use Rattle.fault.specs.declared.kinds.PlanFault.the-variants.{Entry, Conflict a
 use Rattle.fault.specs.Reports.{number-of}
 use Rattle.fault.specs.Firsts.{First, Sooner, Verdict}
 use Rattle.record.specs.Layout.{Draft, draft}
-use Rattle.record.specs.declared.rows.Rows.{Rows}
-use Rattle.record.specs.Rows.{rows-draft}
+use Rattle.record.specs.declared.paths.Paths.{Paths}
+use Rattle.record.specs.Paths.{paths-draft}
 use Rattle.plan.specs.declared.accepted.Plan.{Plan}
 use Rattle.plan.specs.Conflicts.{In-conflict, Applies}
 
 -- what a plan says
 abbrev pub plan-draft : Plan → Draft
-plan-draft p = rows-draft (p .rows)
+plan-draft p = paths-draft (p .paths)
 
--- rows give their plan, or their soonest conflict of the kind that comes first
-abbrev pub Accepted : Rows → Result Plan PlanFault → Type 0
-Accepted rows (Ok p) = p .rows ≡ rows
-Accepted rows (Err (Entry f)) = ⊥
-Accepted rows (Err (Conflicting Clash m)) = First Sooner (In-conflict (rows-draft rows) Clash) m
-Accepted rows (Err (Conflicting Following m)) =
-    First Sooner (In-conflict (rows-draft rows) Following) m × ((n : Meeting) → In-conflict (rows-draft rows) Clash n → ⊥)
+-- paths give their plan, or their soonest conflict of the kind that comes first
+abbrev pub Accepted : Paths → Result Plan PlanFault → Type 0
+Accepted paths (Ok p) = p .paths ≡ paths
+Accepted paths (Err (Entry f)) = ⊥
+Accepted paths (Err (Conflicting Clash m)) = First Sooner (In-conflict (paths-draft paths) Clash) m
+Accepted paths (Err (Conflicting Following m)) =
+    First Sooner (In-conflict (paths-draft paths) Following) m × ((n : Meeting) → In-conflict (paths-draft paths) Clash n → ⊥)
 
 -- what an answer tells: what the plan says, or a fault
 abbrev pub told : Result Plan PlanFault → Result Draft PlanFault
@@ -37,6 +37,6 @@ told (Err f) = Err f
 abbrev pub Judged : List ℕ → Result Draft PlanFault → Type 0
 Judged b v = Verdict number-of (Applies b) (λ d. d ≡ draft b) v
 
--- b has one verdict at most, v
+-- b has no verdict but v
 abbrev pub Only : List ℕ → Result Draft PlanFault → Type 0
 Only b v = (w : Result Draft PlanFault) → Judged b w → w ≡ v

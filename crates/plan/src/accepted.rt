@@ -1,12 +1,12 @@
-ghost use Rattle.record.specs.Rows.{rows-draft};
-ghost use Rattle.plan.specs.Conflicts.{Clear};
-use record::rows::Rows;
+ghost use Rattle.record.specs.Paths.{paths-draft};
+ghost use Rattle.plan.specs.Conflicts.{Conflict-free};
+use record::paths::Paths;
 
 pub mod reads;
 
-/// A plan that nothing is wrong with.
+/// An accepted plan: no two carriers are ever in conflict.
 #[derive(Clone, Copy)]
 pub struct Plan {
-    rows: Rows,
-    ghost clear: { Clear (rows-draft rows) },
+    paths: Paths,
+    ghost clear: { Conflict-free (paths-draft paths) },
 }

@@ -2,11 +2,11 @@ ghost use mathlib.Core.Path.{_≡_};
 ghost use Prim.Native.Nat.{ℕ, _<_, _≤_};
 ghost use lib.ListN.{length};
 ghost use Rattle.std.specs.Orderings.{Decides};
-ghost use Rattle.record.specs.Rows.{rows-draft};
+ghost use Rattle.record.specs.Paths.{paths-draft};
 ghost use Rattle.plan.specs.Searches.{Meets, Lowest, Lowest-pair, Soonest};
 use fault::kinds::Conflict;
 use fault::kinds::Meeting;
-use record::rows::Rows;
+use record::paths::Paths;
 
 /// Whether two carriers are in conflict, by the cells of all carriers at a step and the step
 /// before it.
@@ -48,16 +48,16 @@ fn lowest_pair(kind: Conflict, earlier: &[u16], later: &[u16]) -> Option<(usize,
     None
 }
 
-/// The soonest conflict of a kind. Every carrier rests from step E on, where E is how many entries
-/// there are, so that nothing new happens then.
-pub(crate) fn soonest(rows: &Rows, kind: Conflict) -> Option<Meeting>
-    ensures { λ r. ⌜ Soonest (rows-draft (now (rows .entry))) kind r ⌝ }
+/// The soonest conflict of a kind. No path is longer than all entries together, so later steps
+/// bring nothing new.
+pub(crate) fn soonest(paths: &Paths, kind: Conflict) -> Option<Meeting>
+    ensures { λ r. ⌜ Soonest (paths-draft (now (paths .entry))) kind r ⌝ }
 {
-    let header = rows.header();
+    let header = paths.header();
     let carriers = header.carriers as usize;
     for step in 0..header.entries {
-        let earlier = rows.cells_at(step.saturating_sub(1));
-        let later = rows.cells_at(step);
+        let earlier = paths.cells_at(step.saturating_sub(1));
+        let later = paths.cells_at(step);
         if let Some((first, second)) = lowest_pair(
             kind,
             &earlier[0..carriers],

@@ -1,3 +1,3 @@
-//! Accepted plans: rows in which no two carriers are ever in conflict.
+//! Plans whose carriers are never in conflict.
 pub mod accepted;
 mod conflicts;

@@ -17,7 +17,8 @@ use Rattle.record.specs.declared.entry.Entry.{Entry}
 use Rattle.record.specs.declared.header.Header.{Header}
 use Rattle.record.specs.Layout.{Draft, draft, Record-applies}
 use Rattle.record.specs.Headers.{Reads-header, draft-of}
-use Rattle.record.specs.Entries.{Has-flaw, Judged, Validated, entry-number, flaw-number, Entry-applies, Sound}
+use Rattle.record.specs.Entries.{Has-flaw, entry-number, Entry-applies, Sound}
+use Rattle.record.specs.Searches.{Searched, Validated, flaw-number}
 
 pub same-unless : (a b : ℕ) → ((a ≡ b → ⊥) → ⊥) → a ≡ b
 same-unless a b h = ⊎-elim (λ e. e) (λ n. absurd (h n)) (cases-eq a b)
@@ -32,7 +33,7 @@ module _ (d : Draft) where
   before-cell numbered Cell j l a = omega arith
   before-cell numbered Neighbour j l a = omega arith
 
-  pub last-validated : (r : Result Unit EntryFault) → ((k : ℕ) → Has-flaw d Carrier k → ⊥) → ((k : ℕ) → Has-flaw d Cell k → ⊥) → Judged d Neighbour r → Validated d r
+  pub last-validated : (r : Result Unit EntryFault) → ((k : ℕ) → Has-flaw d Carrier k → ⊥) → ((k : ℕ) → Has-flaw d Cell k → ⊥) → Searched d Neighbour r → Validated d r
   last-validated (Ok u) numbered placed near = sound
     where
       sound : Sound d

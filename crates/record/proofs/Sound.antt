@@ -1,4 +1,4 @@
--- What rows have, being sound.
+-- What paths have, being sound.
 use mathlib.Core.Path.{_≡_}
 use mathlib.Core.Logic.{inl, inr, ⊎-elim}
 use Prim.Native.Nat.{ℕ, _≤_, _<_}
@@ -7,20 +7,20 @@ use lib.ListN.{length, take}
 use Rattle.std.proofs.shelf.Lists.{length-take-le}
 use Rattle.std.proofs.shelf.Tests.{cases-lt}
 use Rattle.fault.specs.declared.kinds.Flaw.the-variants.{Carrier}
-use Rattle.record.specs.declared.rows.Rows.{Rows}
+use Rattle.record.specs.declared.paths.Paths.{Paths}
 use Rattle.record.specs.Layout.{Draft}
 use Rattle.record.specs.Entries.{entry, Sound}
-use Rattle.record.specs.Rows.{rows-draft}
+use Rattle.record.specs.Paths.{paths-draft}
 
 pub carrier-known : (d : Draft) → Sound d → (k : ℕ) → k < length (d .entries) → entry (d .entries) k .carrier < d .carriers
 carrier-known d sound k h = ⊎-elim (λ l. l) (λ l. absurd (sound Carrier k (inl (h, inr l)))) (cases-lt (entry (d .entries) k .carrier) (d .carriers))
 
-module _ (r : Rows) where
-  pub draft-length : length (rows-draft r .entries) ≡ r .header .entries
+module _ (r : Paths) where
+  pub draft-length : length (paths-draft r .entries) ≡ r .header .entries
   draft-length = length-take-le _ _ (omega (arith, r .room, r .header .listed))
 
-  pub draft-few : length (rows-draft r .entries) ≤ 512
+  pub draft-few : length (paths-draft r .entries) ≤ 512
   draft-few = omega (arith, draft-length, r .header .listed)
 
-  pub draft-known : (k : ℕ) → k < length (rows-draft r .entries) → entry (rows-draft r .entries) k .carrier < 16
-  draft-known k h = omega (arith, carrier-known (rows-draft r) (r .sound) k h, r .header .manned)
+  pub draft-known : (k : ℕ) → k < length (paths-draft r .entries) → entry (paths-draft r .entries) k .carrier < 16
+  draft-known k h = omega (arith, carrier-known (paths-draft r) (r .sound) k h, r .header .manned)

@@ -1,4 +1,4 @@
--- Rows and the cells of a step, one entry after another.
+-- Paths and the cells of a step, one entry after another.
 use mathlib.Core.Path.{_≡_, refl, sym, ap, subst, _∙_}
 use mathlib.Core.Bool.{Bool, cond}
 use mathlib.Core.List.{List, [], _∷_, _++_, map}
@@ -14,10 +14,10 @@ use Rattle.std.proofs.shelf.Sums.{length-kept-by, countBy-le-length}
 use Rattle.std.proofs.shelf.Tests.{eq-eqb, ne-eqb, cases-eq}
 use Rattle.record.specs.declared.entry.Entry.{Entry}
 use Rattle.record.specs.Entries.{no-entry, entry}
-use Rattle.record.specs.Steps.{row, at-step}
+use Rattle.record.specs.Steps.{path, at-step}
 
-pub row-le : (es : List Entry) (i : ℕ) → length (row es i) ≤ length es
-row-le es i =
+pub path-le : (es : List Entry) (i : ℕ) → length (path es i) ≤ length es
+path-le es i =
     let own : Entry → _ = λ e. eqb (e .carrier) i in
     simp (length-map, length-kept-by) (countBy-le-length own es)
 
@@ -25,19 +25,19 @@ module _ (es : List Entry) (k : ℕ) (within : k < length es) where
   own : ℕ → Entry → Bool
   own i e = eqb (e .carrier) i
 
-  row-more : (i : ℕ) → row (take (k + 1) es) i ≡ row (take k es) i ++ map (λ e. e .cell) (cond (eqb (entry es k .carrier) i) (entry es k ∷ []) [])
+  path-more : (i : ℕ) → path (take (k + 1) es) i ≡ path (take k es) i ++ map (λ e. e .cell) (cond (eqb (entry es k .carrier) i) (entry es k ∷ []) [])
   unfolding own
-  row-more i =
+  path-more i =
       ap (map (λ e. e .cell)) (kept-by-more (own i) es k no-entry within)
       ∙ map-append {A = Entry} (λ e. e .cell) (kept-by (own i) (take k es)) (cond (eqb (entry es k .carrier) i) (entry es k ∷ []) [])
 
-  pub row-own : (i : ℕ) → entry es k .carrier ≡ i → row (take (k + 1) es) i ≡ row (take k es) i ++ entry es k .cell ∷ []
-  row-own i e = row-more i ∙ ap (λ t. row (take k es) i ++ map (λ e. e .cell) (cond t (entry es k ∷ []) [])) (eq-eqb _ _ e)
+  pub path-own : (i : ℕ) → entry es k .carrier ≡ i → path (take (k + 1) es) i ≡ path (take k es) i ++ entry es k .cell ∷ []
+  path-own i e = path-more i ∙ ap (λ t. path (take k es) i ++ map (λ e. e .cell) (cond t (entry es k ∷ []) [])) (eq-eqb _ _ e)
 
-  pub row-other : (i : ℕ) → (entry es k .carrier ≡ i → ⊥) → row (take (k + 1) es) i ≡ row (take k es) i
-  row-other i n = row-more i ∙ ap (λ t. row (take k es) i ++ map (λ e. e .cell) (cond t (entry es k ∷ []) [])) (ne-eqb _ _ n) ∙ append-nil _
+  pub path-other : (i : ℕ) → (entry es k .carrier ≡ i → ⊥) → path (take (k + 1) es) i ≡ path (take k es) i
+  path-other i n = path-more i ∙ ap (λ t. path (take k es) i ++ map (λ e. e .cell) (cond t (entry es k ∷ []) [])) (ne-eqb _ _ n) ∙ append-nil _
 
--- the cell at step t of a row with one cell more
+-- the cell at step t of a path with one cell more
 step-reached : (r : List ℕ) (c t : ℕ) → length r ≤ t → at-step (r ++ c ∷ []) t ≡ c
 step-reached r c t h =
     let e : min t (length (r ++ c ∷ []) - 1) ≡ length r = simp length-push (omega arith) in
@@ -53,7 +53,7 @@ step-passed r c t h =
 abbrev pub Reached : List Entry → ℕ → List ℕ → List ℕ → Type 0
 Reached es t cells seen =
     (length cells ≡ 16) × (length seen ≡ 16)
-    × ((i : ℕ) → i < 16 → (getD seen i 0 ≡ length (row es i)) × (getD cells i 0 ≡ at-step (row es i) t))
+    × ((i : ℕ) → i < 16 → (getD seen i 0 ≡ length (path es i)) × (getD cells i 0 ≡ at-step (path es i) t))
 
 -- what becomes of them with one entry more: its cell counts where its carrier has come no further than t
 abbrev pub Kept : Entry → ℕ → List ℕ → List ℕ → List ℕ → Type 0
@@ -65,27 +65,27 @@ module _ (es : List Entry) (k : ℕ) (within : k < length es) (t : ℕ) (cells s
   c = entry es k .carrier
 
   abbrev Tracks : ℕ → Type 0
-  Tracks i = (getD (set seen c (getD seen c 0 + 1)) i 0 ≡ length (row (take (k + 1) es) i)) × (getD after i 0 ≡ at-step (row (take (k + 1) es) i) t)
+  Tracks i = (getD (set seen c (getD seen c 0 + 1)) i 0 ≡ length (path (take (k + 1) es) i)) × (getD after i 0 ≡ at-step (path (take (k + 1) es) i) t)
 
   own-tracks : Tracks c
   own-tracks = (
     getD-set-same seen c (getD seen c 0 + 1) 0 (omega (arith, r .1))
-        ∙ ap (λ n. n + 1) (r .2 c low .0) ∙ sym (length-push _ _) ∙ ap length (sym (row-own es k within c refl)),
-    now kept ∙ ap (λ x. at-step x t) (sym (row-own es k within c refl)),
+        ∙ ap (λ n. n + 1) (r .2 c low .0) ∙ sym (length-push _ _) ∙ ap length (sym (path-own es k within c refl)),
+    now kept ∙ ap (λ x. at-step x t) (sym (path-own es k within c refl)),
   )
     where
-      now : Kept (entry es k) t cells seen after → getD after c 0 ≡ at-step (row (take k es) c ++ entry es k .cell ∷ []) t
+      now : Kept (entry es k) t cells seen after → getD after c 0 ≡ at-step (path (take k es) c ++ entry es k .cell ∷ []) t
       now (inl (h, e)) =
           ap (λ x. getD x c 0) e ∙ getD-set-same cells c (entry es k .cell) 0 (omega (arith, r .0))
-          ∙ sym (step-reached (row (take k es) c) (entry es k .cell) t (omega (arith, r .2 c low .0)))
+          ∙ sym (step-reached (path (take k es) c) (entry es k .cell) t (omega (arith, r .2 c low .0)))
       now (inr (h, e)) =
           ap (λ x. getD x c 0) e ∙ r .2 c low .1
-          ∙ sym (step-passed (row (take k es) c) (entry es k .cell) t (omega (arith, r .2 c low .0)))
+          ∙ sym (step-passed (path (take k es) c) (entry es k .cell) t (omega (arith, r .2 c low .0)))
 
   other-tracks : (i : ℕ) → i < 16 → (c ≡ i → ⊥) → Tracks i
   other-tracks i h n = (
-    getD-set-other seen c i (getD seen c 0 + 1) 0 (λ e. n (sym e)) ∙ r .2 i h .0 ∙ ap length (sym (row-other es k within i n)),
-    now kept ∙ r .2 i h .1 ∙ ap (λ x. at-step x t) (sym (row-other es k within i n)),
+    getD-set-other seen c i (getD seen c 0 + 1) 0 (λ e. n (sym e)) ∙ r .2 i h .0 ∙ ap length (sym (path-other es k within i n)),
+    now kept ∙ r .2 i h .1 ∙ ap (λ x. at-step x t) (sym (path-other es k within i n)),
   )
     where
       now : Kept (entry es k) t cells seen after → getD after i 0 ≡ getD cells i 0

@@ -1,4 +1,4 @@
--- The visits of a row, one entry after another.
+-- The visits of a path, one entry after another.
 use mathlib.Core.Path.{_≡_, refl, sym, ap, _∙_}
 use mathlib.Core.Bool.{Bool, true, false, cond, not, _||_}
 use mathlib.Core.List.{List, [], _∷_, _++_}
@@ -11,11 +11,13 @@ use Rattle.std.specs.declared.option.Option.{Option}
 use Rattle.std.specs.declared.option.Option.the-variants.{Some, None}
 use Rattle.std.specs.Iters.{counting}
 use Rattle.std.specs.Options.{Cases}
+use Rattle.std.specs.Orderings.{Decides}
 use Rattle.std.specs.shelf.Lists.{sumBy, countBy}
 use Rattle.std.proofs.shelf.Lists.{length-push, getD-push, getD-append-left, map-id}
 use Rattle.std.proofs.shelf.Counted.{length-counting, sumBy-map-counting-more}
 use Rattle.std.proofs.shelf.Sums.{sumBy-cons, countBy-le-length}
 use Rattle.std.proofs.shelf.Tests.{ne-eqb}
+use Rattle.std.proofs.shelf.Ways.{same-from-decides, decides-eqb}
 use Rattle.record.specs.Steps.{visit-at, visit-count}
 
 abbrev one : Bool → ℕ
@@ -44,7 +46,7 @@ count-more p n =
     ap (sumBy few) (sym (map-id (counting 0 (n + 1)))) ∙ sumBy-map-counting-more few (λ k. k) 0 n n (omega arith)
     ∙ ap (λ l. sumBy few l + few n) (map-id (counting 0 n))
 
--- the last cell of a row
+-- the last cell of a path
 abbrev pub Last : List ℕ → Option ℕ → Type 0
 Last r None = r ≡ []
 Last r (Some c) = (0 < length r) × (getD r (length r - 1) 0 ≡ c)
@@ -60,6 +62,11 @@ visits-le r = omega (arith, countBy-le-length (visit-at r) (counting 0 (length r
 -- whether the carrier enters the cell c anew
 abbrev pub Enters : Option ℕ → ℕ → Bool → Type 0
 Enters o c b = Cases o (b ≡ true) (λ before. b ≡ not (eqb before c))
+
+-- what `!=` answers of the last cell and the next
+pub differs : (o : Option ℕ) (c : ℕ) (x b : Bool) → Cases o (x ≡ false) (λ before. Decides x (before ≡ c)) → b ≡ not x → Enters o c b
+differs None c x b h e = e ∙ ap not h
+differs (Some before) c x b h e = e ∙ ap not (same-from-decides x (eqb before c) h (decides-eqb before c))
 
 module _ (r : List ℕ) (c : ℕ) where
   below-same : (k : ℕ) → 0 ≤ k → k < 0 + length r → visit-at (r ++ c ∷ []) k ≡ visit-at r k

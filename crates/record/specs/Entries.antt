@@ -4,8 +4,6 @@ use mathlib.Core.List.{List}
 use mathlib.Core.Logic.{_⊎_}
 use Prim.Native.Nat.{ℕ, _+_, _-_, _*_, _/_, _%_, _≤_, _<_}
 use lib.ListN.{length, getD}
-use Rattle.std.specs.declared.result.Result.{Result}
-use Rattle.std.specs.declared.result.Result.the-variants.{Ok, Err}
 use Rattle.fault.specs.declared.kinds.Flaw.{Flaw}
 use Rattle.fault.specs.declared.kinds.Flaw.the-variants.{Carrier, Cell, Neighbour}
 use Rattle.fault.specs.declared.kinds.EntryFault.{EntryFault}
@@ -28,10 +26,11 @@ Follows-on es k =
     (k ≡ 0 → entry es k .carrier ≡ 0)
     × (0 < k → (entry es k .carrier ≡ entry es (k - 1) .carrier) ⊎ (entry es k .carrier ≡ entry es (k - 1) .carrier + 1))
 
--- rows and columns between two cells of a floor of width w; the cell in row r and column k is r * w + k
+-- how far apart two numbers are
 abbrev pub gap : ℕ → ℕ → ℕ
 gap a b = (a - b) + (b - a)
 
+-- Manhattan distance on a floor of width w, whose cell r * w + k is in row r and column k: cells at distance 1 share a side
 abbrev pub distance : ℕ → ℕ → ℕ → ℕ
 distance w a b = gap (a / w) (b / w) + gap (a % w) (b % w)
 
@@ -49,26 +48,11 @@ Has-flaw d Neighbour k =
 abbrev pub entry-number : EntryFault → ℕ
 entry-number f = number-of (entry-fault f)
 
--- a fault of the entry layer applies to the bytes b
+-- a fault of the record or entry layer applies to the bytes b
 abbrev pub Entry-applies : List ℕ → EntryFault → Type 0
 Entry-applies b (Record f) = Record-applies b f
 Entry-applies b (Flawed flaw k) = First _<_ (Has-flaw (draft b) flaw) k
 
--- entries that nothing is wrong with
+-- no entry has a flaw
 abbrev pub Sound : Draft → Type 0
 Sound d = (flaw : Flaw) (k : ℕ) → Has-flaw d flaw k → ⊥
-
--- what the search for one flaw answers: no entry has it, or the first that does
-abbrev pub Judged : Draft → Flaw → Result Unit EntryFault → Type 0
-Judged d flaw (Ok u) = (k : ℕ) → Has-flaw d flaw k → ⊥
-Judged d flaw (Err f) = (k : ℕ) × (f ≡ Flawed flaw k) × First _<_ (Has-flaw d flaw) k
-
--- what the search for all of them answers: nothing is wrong, or the first entry with the flaw that comes first
-abbrev pub flaw-number : Flaw → ℕ
-flaw-number flaw = entry-number (Flawed flaw 0)
-
-abbrev pub Validated : Draft → Result Unit EntryFault → Type 0
-Validated d (Ok u) = Sound d
-Validated d (Err f) =
-    (flaw : Flaw) × (k : ℕ) × (f ≡ Flawed flaw k) × First _<_ (Has-flaw d flaw) k
-    × ((g : Flaw) (j : ℕ) → flaw-number g < flaw-number flaw → Has-flaw d g j → ⊥)

@@ -12,7 +12,8 @@ use Rattle.fault.specs.Reports.{place-of}
 use Rattle.fault.specs.Firsts.{First, By}
 use Rattle.record.specs.declared.entry.Entry.{Entry}
 
--- What a record says, before anybody has judged it.
+-- What a record says, right or wrong. A byte that it lacks counts as 0: then fault 1 or 3 applies, and comes before whatever
+-- that 0 brings about.
 pub record Draft : Type 0 where
   pub width : ℕ
   pub height : ℕ

@@ -1,5 +1,6 @@
 pub mod Layout
 pub mod Headers
 pub mod Entries
-pub mod Rows
+pub mod Searches
+pub mod Paths
 pub mod Steps

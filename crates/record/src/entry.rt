@@ -1,4 +1,4 @@
-/// One line of a plan: a carrier, and the cell in which it is at its next step.
+/// A carrier and its cell at a step: a carrier's entries are its steps 0, 1, 2 and so on.
 #[derive(Clone, Copy)]
 pub struct Entry {
     pub carrier: u8,

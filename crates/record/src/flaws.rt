@@ -4,7 +4,8 @@ ghost use lib.ListN.{length};
 ghost use Rattle.std.specs.Orderings.{Decides};
 ghost use Rattle.fault.specs.declared.kinds.Flaw.the-variants.{Carrier};
 ghost use Rattle.record.specs.Headers.{draft-of};
-ghost use Rattle.record.specs.Entries.{Follows-on, Has-flaw, Judged, Validated, distance};
+ghost use Rattle.record.specs.Entries.{Follows-on, Has-flaw, distance};
+ghost use Rattle.record.specs.Searches.{Searched, Validated};
 use crate::entry::Entry;
 use crate::header::Header;
 use fault::kinds::EntryFault;
@@ -23,7 +24,8 @@ fn follows_on(entries: &[Entry], k: usize) -> bool
     carrier == before || (carrier > 0 && carrier - 1 == before)
 }
 
-/// Whether the carrier numbers break off at `k`; past the last entry, whether that is too low.
+/// Whether the carrier number at `k` is out of turn or too high; past the last entry, whether the
+/// last is too low.
 fn misnumbered(header: &Header, entries: &[Entry], k: usize) -> bool
     requires { ⌜ (0 < length (now entries)) × (k ≤ length (now entries)) ⌝ }
     ensures { λ r. ⌜ Decides r (Has-flaw (draft-of (now (header .entry)) (now (entries .entry))) Carrier k) ⌝ }
@@ -34,7 +36,7 @@ fn misnumbered(header: &Header, entries: &[Entry], k: usize) -> bool
     !follows_on(entries, k) || entries[k].carrier >= header.carriers
 }
 
-/// The rows and columns between two cells of a floor.
+/// The rows and columns between two cells, added up.
 fn distance(width: u8, a: u16, b: u16) -> u32
     requires { ⌜ 1 ≤ width ⌝ }
     ensures { λ r. ⌜ r ≡ distance width a b ⌝ }
@@ -53,7 +55,7 @@ fn off_floor(header: &Header, cell: u16) -> bool
 }
 
 /// Whether a carrier's entry is neither in the cell of its entry before nor beside it.
-fn strays(width: u8, before: Entry, after: Entry) -> bool
+fn jumps(width: u8, before: Entry, after: Entry) -> bool
     requires { ⌜ 1 ≤ width ⌝ }
     ensures { λ r. ⌜ Decides r ((before .carrier ≡ after .carrier) × (1 < distance width (before .cell) (after .cell))) ⌝ }
 {
@@ -70,14 +72,14 @@ fn flawed(header: &Header, entries: &[Entry], flaw: Flaw, k: usize) -> bool
         Flaw::Cell => k < entries.len() && off_floor(header, entries[k].cell),
         Flaw::Neighbour => 0 < k
             && k < entries.len()
-            && strays(header.width, entries[k - 1], entries[k]),
+            && jumps(header.width, entries[k - 1], entries[k]),
     }
 }
 
 /// Refuses entries that have the flaw, at the first index where they do.
 fn judge(header: &Header, entries: &[Entry], flaw: Flaw) -> Result<(), EntryFault>
     requires { ⌜ (0 < length (now entries)) × (length (now entries) ≤ 512) ⌝ }
-    ensures { λ r. ⌜ Judged (draft-of (now (header .entry)) (now (entries .entry))) flaw r ⌝ }
+    ensures { λ r. ⌜ Searched (draft-of (now (header .entry)) (now (entries .entry))) flaw r ⌝ }
 {
     for k in 0..=entries.len() {
         if flawed(header, entries, flaw, k) {
@@ -87,7 +89,7 @@ fn judge(header: &Header, entries: &[Entry], flaw: Flaw) -> Result<(), EntryFaul
     Ok(())
 }
 
-/// Refuses entries that anything is wrong with.
+/// Refuses entries that have a flaw.
 pub(crate) fn validate(header: &Header, entries: &[Entry]) -> Result<(), EntryFault>
     requires { ⌜ (0 < length (now entries)) × (length (now entries) ≤ 512) ⌝ }
     ensures { λ r. ⌜ Validated (draft-of (now (header .entry)) (now (entries .entry))) r ⌝ }

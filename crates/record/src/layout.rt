@@ -7,12 +7,16 @@ ghost use Rattle.record.specs.Layout.{word, header, front, rest, In-range, Rec
 ghost use Rattle.record.specs.Headers.{Reads-header, record-number};
 use crate::MAX_CARRIERS;
 use crate::MAX_ENTRIES;
+use crate::MAX_SIDE;
 use crate::header::Header;
 use fault::kinds::Field;
 use fault::kinds::RecordFault;
 
 /// How many bytes the header takes.
-pub(crate) const HEADER: usize = 8;
+pub const HEADER_LEN: usize = 8;
+
+/// How many bytes an entry takes: its carrier number, and its cell further on.
+pub const ENTRY_LEN: usize = 3;
 
 /// The number in the two bytes at `at`, the low one first.
 pub(crate) fn word(bytes: &[u8], at: usize) -> u16
@@ -22,21 +26,29 @@ pub(crate) fn word(bytes: &[u8], at: usize) -> u16
     u16::from(bytes[at]) + 256 * u16::from(bytes[at + 1])
 }
 
+/// A number of the header as it stands there.
+fn stated(bytes: &[u8], field: Field) -> u16
+    requires { ⌜ 8 ≤ length (now bytes) ⌝ }
+    ensures { λ r. ⌜ r ≡ header (now (bytes .entry)) field ⌝ }
+{
+    word(bytes, 2 * field.place() as usize)
+}
+
 /// A number of the header, if it is in its range.
 fn number(bytes: &[u8], field: Field) -> Result<u16, RecordFault>
     requires { ⌜ 8 ≤ length (now bytes) ⌝ }
     ensures { λ r. ⌜ Cases r (λ n. (n ≡ header (now (bytes .entry)) field) × In-range (now (bytes .entry)) field) (λ e. (e ≡ RecordFault.Header field) × (In-range (now (bytes .entry)) field → ⊥)) ⌝ }
 {
-    let number = word(bytes, 2 * field.place() as usize);
+    let value = stated(bytes, field);
     let (least, most) = match field {
-        Field::Width | Field::Height => (1, 64),
+        Field::Width | Field::Height => (1, MAX_SIDE as u16),
         Field::Carriers => (1, MAX_CARRIERS as u16),
-        Field::Entries => (word(bytes, 4), MAX_ENTRIES as u16),
+        Field::Entries => (stated(bytes, Field::Carriers), MAX_ENTRIES as u16),
     };
-    if number < least || number > most {
+    if value < least || value > most {
         return Err(RecordFault::Header(field));
     }
-    Ok(number)
+    Ok(value)
 }
 
 /// The record at the front of some bytes, as long as its header says, and what follows it. Where
@@ -45,8 +57,8 @@ pub fn split_record(bytes: &[u8]) -> (&[u8], &[u8])
     ensures before { λ r. ⌜ now (r .0) ≡ front (now (bytes .entry)) ⌝ }
     ensures after { λ r. ⌜ now (r .1) ≡ rest (now (bytes .entry)) ⌝ }
 {
-    if bytes.len() >= HEADER {
-        let end = HEADER + 3 * word(bytes, 6) as usize;
+    if bytes.len() >= HEADER_LEN {
+        let end = HEADER_LEN + ENTRY_LEN * stated(bytes, Field::Entries) as usize;
         if end <= bytes.len() {
             return bytes.split_at(end);
         }
@@ -59,14 +71,14 @@ impl Header {
     pub fn read(bytes: &[u8]) -> Result<Header, RecordFault>
         ensures { λ r. ⌜ Verdict record-number (Record-applies (now (bytes .entry))) (Reads-header (now (bytes .entry))) r ⌝ }
     {
-        if bytes.len() < HEADER {
+        if bytes.len() < HEADER_LEN {
             return Err(RecordFault::Short);
         }
         let width = number(bytes, Field::Width)?;
         let height = number(bytes, Field::Height)?;
         let carriers = number(bytes, Field::Carriers)?;
         let entries = number(bytes, Field::Entries)?;
-        if bytes.len() != HEADER + 3 * entries as usize {
+        if bytes.len() != HEADER_LEN + ENTRY_LEN * entries as usize {
             return Err(RecordFault::Length);
         }
         Ok(Header {

@@ -9,7 +9,7 @@ use Rattle.std.specs.Of.String.{string-bytes}
 use Rattle.std.specs.Results.{isOk}
 use Rattle.std.proofs.shelf.Lists.{joined-more, map-id}
 use Rattle.std.proofs.shelf.Counted.{map-counting-more}
-use Rattle.record.specs.Rows.{rows-draft}
+use Rattle.record.specs.Paths.{paths-draft}
 use Rattle.listing.specs.Texts.{plan-line, carrier-line}
 use Rattle.listing.proofs.plan_text.Needs as need
 
@@ -18,7 +18,7 @@ counting-more n = sym (map-id _) ∙ map-counting-more (λ k. k) 0 n n (omega ar
 
 pub loop-carrier-again : need.loop-carrier-again
 loop-carrier-again c =
-    let d = rows-draft (c .args .rows .now) in
+    let d = paths-draft (c .args .paths .now) in
     let text = string-bytes (c .loop-carrier .text) in
     let i = c .loop-carrier .carrier in
     c .push-str .ensures .bytes

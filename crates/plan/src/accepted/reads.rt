@@ -5,36 +5,36 @@ use crate::conflicts::soonest;
 use fault::kinds::Conflict;
 use fault::kinds::PlanFault;
 use fault::kinds::PlanFromEntry;
-use record::rows::Rows;
+use record::paths::Paths;
 
-/// The plan of some rows, unless two carriers are in conflict; clashes come before following
+/// The plan of some paths, unless two carriers are in conflict; clashes come before following
 /// conflicts.
-fn accept(rows: Rows) -> Result<Plan, PlanFault>
-    ensures { λ r. ⌜ Accepted rows r ⌝ }
+fn accept(paths: Paths) -> Result<Plan, PlanFault>
+    ensures { λ r. ⌜ Accepted paths r ⌝ }
 {
-    if let Some(meeting) = soonest(&rows, Conflict::Clash) {
+    if let Some(meeting) = soonest(&paths, Conflict::Clash) {
         return Err(PlanFault::Conflict(Conflict::Clash, meeting));
     }
-    if let Some(meeting) = soonest(&rows, Conflict::Following) {
+    if let Some(meeting) = soonest(&paths, Conflict::Following) {
         return Err(PlanFault::Conflict(Conflict::Following, meeting));
     }
-    Ok(Plan { rows })
+    Ok(Plan { paths })
 }
 
 impl Plan {
-    /// The plan in a record's bytes, or the first fault of the record; nothing else would be an
-    /// answer.
+    /// The plan in a record's bytes, or the first fault of the record; the record has no other
+    /// verdict.
     pub fn read(bytes: &[u8]) -> Result<Plan, PlanFault>
         ensures judged { λ r. ⌜ Judged (now (bytes .entry)) (told r) ⌝ }
         ensures only { λ r. ⌜ Only (now (bytes .entry)) (told r) ⌝ }
     {
-        accept(Rows::read(bytes)?)
+        accept(Paths::read(bytes)?)
     }
 
-    /// The rows of the plan.
-    pub fn rows(&self) -> &Rows
-        ensures { λ r. ⌜ now r ≡ now (self .entry) .rows ⌝ }
+    /// The paths of the plan.
+    pub fn paths(&self) -> &Paths
+        ensures { λ r. ⌜ now r ≡ now (self .entry) .paths ⌝ }
     {
-        &self.rows
+        &self.paths
     }
 }

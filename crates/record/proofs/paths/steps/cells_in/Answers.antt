@@ -6,10 +6,10 @@ use lib.ListN.{length, take}
 use Rattle.std.proofs.shelf.Lists.{length-take-le, take-all}
 use Rattle.std.proofs.shelf.Counted.{fill-by-all}
 use Rattle.record.specs.Entries.{entry}
-use Rattle.record.specs.Steps.{row, at-step}
-use Rattle.record.proofs.Steps.{Kept, row-le, reached-more}
-use Rattle.record.proofs.rows.steps.cells_in.Needs as need
-use Rattle.record.proofs.rows.steps.cells_in.Needs.{then-seen-carrier, else-seen-carrier}
+use Rattle.record.specs.Steps.{path, at-step}
+use Rattle.record.proofs.Steps.{Kept, path-le, reached-more}
+use Rattle.record.proofs.paths.steps.cells_in.Needs as need
+use Rattle.record.proofs.paths.steps.cells_in.Needs.{then-seen-carrier, else-seen-carrier}
 
 pub add-seen : need.add-seen
 add-seen c =
@@ -17,7 +17,7 @@ add-seen c =
     let es = c .args .entries .now in
     let i = entry es k .carrier in
     let in-list : k < length es = omega arith in
-    omega (arith, c .loop-entry .inv .2 i (c .pre .known k in-list) .0, row-le (take k es) i, length-take-le k es (omega arith), c .pre .few)
+    omega (arith, c .loop-entry .inv .2 i (c .pre .known k in-list) .0, path-le (take k es) i, length-take-le k es (omega arith), c .pre .few)
 
 pub loop-entry-again : need.loop-entry-again
 loop-entry-again c =
@@ -32,6 +32,6 @@ pub returns : need.returns
 returns c =
     let es = c .args .entries .now in
     let t = c .args .step in
-    let f : ℕ → ℕ = λ i. at-step (row es i) t in
+    let f : ℕ → ℕ = λ i. at-step (path es i) t in
     fill-by-all f (c .loop-entry .cells) 16 0 (c .loop-entry .inv .0)
-    (λ i h. c .loop-entry .inv .2 i h .1 ∙ ap (λ x. at-step (row x i) t) (take-all _ es (omega arith)))
+    (λ i h. c .loop-entry .inv .2 i h .1 ∙ ap (λ x. at-step (path x i) t) (take-all _ es (omega arith)))

@@ -7,13 +7,13 @@ ghost use Rattle.fault.specs.Firsts.{Verdict};
 ghost use Rattle.record.specs.Layout.{draft, entry-at};
 ghost use Rattle.record.specs.Headers.{Reads-header};
 ghost use Rattle.record.specs.Entries.{entry-number, Entry-applies};
-ghost use Rattle.record.specs.Rows.{rows-draft};
-use super::Rows;
+ghost use Rattle.record.specs.Paths.{paths-draft};
+use super::Paths;
 use crate::MAX_ENTRIES;
 use crate::entry::Entry;
 use crate::flaws::validate;
 use crate::header::Header;
-use crate::layout::HEADER;
+use crate::layout::HEADER_LEN;
 use crate::layout::word;
 use fault::kinds::EntryFault;
 use fault::kinds::EntryFromRecord;
@@ -31,21 +31,21 @@ fn load(bytes: &[u8], header: &Header) -> [Entry; MAX_ENTRIES]
     }; MAX_ENTRIES];
     for k in 0..count {
         entries[k] = Entry {
-            carrier: bytes[HEADER + k],
-            cell: word(bytes, HEADER + count + 2 * k),
+            carrier: bytes[HEADER_LEN + k],
+            cell: word(bytes, HEADER_LEN + count + 2 * k),
         };
     }
     entries
 }
 
-impl Rows {
-    /// The rows of a record, or what is wrong with it.
-    pub fn read(bytes: &[u8]) -> Result<Rows, EntryFault>
-        ensures { λ r. ⌜ Verdict entry-number (Entry-applies (now (bytes .entry))) (λ rows. rows-draft rows ≡ draft (now (bytes .entry))) r ⌝ }
+impl Paths {
+    /// The paths of a record, or what is wrong with it.
+    pub fn read(bytes: &[u8]) -> Result<Paths, EntryFault>
+        ensures { λ r. ⌜ Verdict entry-number (Entry-applies (now (bytes .entry))) (λ paths. paths-draft paths ≡ draft (now (bytes .entry))) r ⌝ }
     {
         let header = Header::read(bytes)?;
         let entries = load(bytes, &header);
         validate(&header, &entries[0..header.entries as usize])?;
-        Ok(Rows { header, entries })
+        Ok(Paths { header, entries })
     }
 }

@@ -5,7 +5,7 @@ use lib.ListN.{take}
 use Rattle.std.proofs.shelf.Results.{err-from-errBy}
 use Rattle.fault.specs.declared.kinds.RecordFault.the-variants.{Length}
 use Rattle.record.proofs.Layers.{same-unless, drafts-same, validated-first}
-use Rattle.record.proofs.rows.Rows.read.Needs as need
+use Rattle.record.proofs.paths.Paths.read.Needs as need
 
 pub load-entries-requires : need.load-entries-requires
 load-entries-requires c κs =

@@ -6,7 +6,7 @@ use lib.ListN.{length, take, set}
 use Rattle.std.proofs.shelf.Lists.{length-set, take-more-set}
 use Rattle.std.proofs.shelf.Counted.{map-counting-more}
 use Rattle.record.specs.Layout.{word, entry-at}
-use Rattle.record.proofs.rows.reads.load.Needs as need
+use Rattle.record.proofs.paths.reads.load.Needs as need
 
 pub loop-k-again : need.loop-k-again
 loop-k-again c =

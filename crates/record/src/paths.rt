@@ -9,9 +9,9 @@ use crate::header::Header;
 pub mod reads;
 pub mod steps;
 
-/// The entries of a record that are free of faults, each carrier's in a row of its own.
+/// The paths of all carriers: a record's entries, free of flaws.
 #[derive(Clone, Copy)]
-pub struct Rows {
+pub struct Paths {
     header: Header,
     entries: [Entry; MAX_ENTRIES],
     ghost room: { length entries ≡ 512 },

@@ -1,7 +1,0 @@
-use Rattle.record.proofs.Sound.{draft-few, draft-known}
-use Rattle.record.proofs.rows.Rows.cells_at.Needs as need
-
-pub cells-in-requires : need.cells-in-requires
-cells-in-requires c κs =
-    let rows = c .args .self .now in
-    record { few = rw (c .entries .ensures) (draft-few rows); known = rw (c .entries .ensures) (draft-known rows) }
