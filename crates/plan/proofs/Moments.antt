@@ -16,7 +16,10 @@ use Rattle.fault.specs.declared.kinds.Conflict.the-variants.{Clash, Following}
 use Rattle.fault.specs.declared.kinds.Meeting.{Meeting}
 use Rattle.fault.specs.Firsts.{First, Sooner}
 use Rattle.fault.specs.Firsts.Sooner.{by-step, by-first, by-second}
+use Rattle.record.specs.declared.header.Header.{Header}
+use Rattle.record.specs.declared.paths.Paths.{Paths}
 use Rattle.record.specs.Layout.{Draft}
+use Rattle.record.specs.Paths.{paths-draft}
 use Rattle.record.specs.Steps.{path, cell}
 use Rattle.record.proofs.Steps.{path-le}
 use Rattle.plan.specs.Conflicts.{In-conflict}
@@ -27,7 +30,7 @@ pub record Shows (d : Draft) (t : ℕ) (cells : List ℕ) : Type 0 where
   pub all : length cells ≡ d .carriers
   pub each : (i : ℕ) → i < d .carriers → getD cells i 0 ≡ cell d i t
 
-pub shows-part : (d : Draft) (t n : ℕ) (cells : List ℕ) → n ≡ d .carriers → d .carriers ≤ 16 → cells ≡ map (λ i. cell d i t) (counting 0 16) → Shows d t (take (n - 0) cells)
+shows-part : (d : Draft) (t n : ℕ) (cells : List ℕ) → n ≡ d .carriers → d .carriers ≤ 16 → cells ≡ map (λ i. cell d i t) (counting 0 16) → Shows d t (take (n - 0) cells)
 shows-part d t n cells all few e =
     let part : take (n - 0) cells ≡ take (d .carriers) cells = ap (λ k. take k cells) (sub-zero n ∙ all) in
     record {
@@ -36,6 +39,12 @@ shows-part d t n cells all few e =
           ap (λ x. getD x i 0) part ∙ getD-take (d .carriers) cells i 0 h ∙ ap (λ x. getD x i 0) e
           ∙ getD-map-counting (λ k. cell d k t) 0 16 i i 0 (omega arith) (omega arith);
     }
+
+-- the parts of the two arrays that code hands on
+pub moment : (p : Paths) (h : Header) (t : ℕ) (earlier later : List ℕ) → h ≡ p .header → earlier ≡ map (λ i. cell (paths-draft p) i (t - 1)) (counting 0 16) → later ≡ map (λ i. cell (paths-draft p) i t) (counting 0 16) → Shows (paths-draft p) (t - 1) (take (h .carriers - 0) earlier) × Shows (paths-draft p) t (take (h .carriers - 0) later)
+moment p h t earlier later e was now =
+    let all = ap (λ (x : Header). x .carriers) e in
+    (shows-part (paths-draft p) (t - 1) _ earlier all (p .header .manned .1) was, shows-part (paths-draft p) t _ later all (p .header .manned .1) now)
 
 -- what the cells at a step and at the step before show of two carriers
 module _ (d : Draft) (t : ℕ) (earlier later : List ℕ) (was : Shows d (t - 1) earlier) (now : Shows d t later) where

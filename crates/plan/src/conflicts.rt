@@ -1,11 +1,15 @@
 ghost use mathlib.Core.Path.{_≡_};
-ghost use Prim.Native.Nat.{ℕ, _<_, _≤_};
+ghost use mathlib.Core.List.{map};
+ghost use Prim.Native.Nat.{ℕ, _-_, _<_, _≤_};
 ghost use lib.ListN.{length};
+ghost use Rattle.std.specs.Iters.{counting};
 ghost use Rattle.std.specs.Orderings.{Decides};
 ghost use Rattle.record.specs.Paths.{paths-draft};
+ghost use Rattle.record.specs.Steps.{cell};
 ghost use Rattle.plan.specs.Searches.{Meets, Lowest, Lowest-pair, Soonest};
 use fault::kinds::Conflict;
 use fault::kinds::Meeting;
+use record::MAX_CARRIERS;
 use record::paths::Paths;
 
 /// Whether two carriers are in conflict, by the cells of all carriers at a step and the step
@@ -48,6 +52,13 @@ fn lowest_pair(kind: Conflict, earlier: &[u16], later: &[u16]) -> Option<(usize,
     None
 }
 
+/// The carriers' cells a step before; nothing comes before step 0, so there they are the same.
+fn cells_before(paths: &Paths, step: u16) -> [u16; MAX_CARRIERS]
+    ensures { λ r. ⌜ r ≡ map (λ i. cell (paths-draft (now (paths .entry))) i (step - 1)) (counting 0 16) ⌝ }
+{
+    paths.cells_at(step.saturating_sub(1))
+}
+
 /// The soonest conflict of a kind. No path is longer than all entries together, so later steps
 /// bring nothing new.
 pub(crate) fn soonest(paths: &Paths, kind: Conflict) -> Option<Meeting>
@@ -56,7 +67,7 @@ pub(crate) fn soonest(paths: &Paths, kind: Conflict) -> Option<Meeting>
     let header = paths.header();
     let carriers = header.carriers as usize;
     for step in 0..header.entries {
-        let earlier = paths.cells_at(step.saturating_sub(1));
+        let earlier = cells_before(paths, step);
         let later = paths.cells_at(step);
         if let Some((first, second)) = lowest_pair(
             kind,
