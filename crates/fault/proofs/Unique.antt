@@ -1,7 +1,7 @@
 -- What is named first is one.
 use mathlib.Core.Path.{_≡_, refl, sym, ap, _∙_}
 use mathlib.Core.Logic.{_⊎_, inl, inr, ⊎-elim}
-use Prim.Native.Nat.{ℕ, zero, suc, _<_}
+use Prim.Native.Nat.{ℕ, zero, suc}
 use Rattle.std.proofs.shelf.Tests.{cases-order}
 use Rattle.fault.specs.declared.kinds.Field.{Field}
 use Rattle.fault.specs.declared.kinds.Field.the-variants.{Width, Height, Carriers, Entries}

@@ -6,14 +6,9 @@ use lib.ListN.{getD}
 use Rattle.std.specs.Written.{decimal}
 use Rattle.fault.specs.declared.kinds.Field.{Field}
 use Rattle.fault.specs.declared.kinds.Field.the-variants.{Width, Height, Carriers, Entries}
-use Rattle.fault.specs.declared.kinds.Flaw.{Flaw}
 use Rattle.fault.specs.declared.kinds.Flaw.the-variants.{Carrier, Cell, Neighbour}
-use Rattle.fault.specs.declared.kinds.Conflict.{Conflict}
 use Rattle.fault.specs.declared.kinds.Conflict.the-variants.{Clash, Following}
-use Rattle.fault.specs.declared.kinds.Meeting.{Meeting}
-use Rattle.fault.specs.declared.kinds.RecordFault.{RecordFault}
 use Rattle.fault.specs.declared.kinds.RecordFault.the-variants.{Short, Header, Length}
-use Rattle.fault.specs.declared.kinds.EntryFault.{EntryFault}
 use Rattle.fault.specs.declared.kinds.EntryFault.the-variants.{Record, Flawed}
 use Rattle.fault.specs.declared.kinds.PlanFault.{PlanFault}
 use Rattle.fault.specs.declared.kinds.PlanFault.the-variants.{Entry, Conflict as Conflicting}

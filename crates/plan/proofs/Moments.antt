@@ -9,8 +9,8 @@ use lib.ListN.{length, getD, take}
 use Rattle.std.specs.declared.option.Option.the-variants.{Some, None}
 use Rattle.std.specs.Iters.{counting}
 use Rattle.std.proofs.shelf.Lists.{length-take-le, getD-take}
-use Rattle.std.proofs.shelf.Counted.{length-map-counting, getD-map-counting}
-use Rattle.std.proofs.shelf.Tests.{cases-lt, cases-eq}
+use Rattle.std.proofs.shelf.Counted.{getD-map-counting}
+use Rattle.std.proofs.shelf.Tests.{cases-lt}
 use Rattle.fault.specs.declared.kinds.Conflict.{Conflict}
 use Rattle.fault.specs.declared.kinds.Conflict.the-variants.{Clash, Following}
 use Rattle.fault.specs.declared.kinds.Meeting.{Meeting}
@@ -23,7 +23,7 @@ use Rattle.record.specs.Paths.{paths-draft}
 use Rattle.record.specs.Steps.{path, cell}
 use Rattle.record.proofs.Steps.{path-le}
 use Rattle.plan.specs.Conflicts.{In-conflict}
-use Rattle.plan.specs.Searches.{Meets, Lowest-pair, Soonest}
+use Rattle.plan.specs.Searches.{Meets, Lowest-pair}
 
 -- cells has the cell of each of the carriers at step t
 pub record Shows (d : Draft) (t : ℕ) (cells : List ℕ) : Type 0 where

@@ -1,9 +1,9 @@
-use mathlib.Core.Path.{_≡_, ap, _∙_}
+use mathlib.Core.Path.{ap, _∙_}
 use Rattle.std.specs.declared.result.Result.the-variants.{Ok, Err}
 use Rattle.std.proofs.shelf.Results.{made-weaker}
-use Rattle.plan.specs.Plans.{told, plan-draft}
+use Rattle.plan.specs.Plans.{plan-draft}
 use Rattle.record.specs.Paths.{paths-draft}
-use Rattle.listing.specs.Texts.{Listed, plan-text}
+use Rattle.listing.specs.Texts.{plan-text}
 use Rattle.listing.proofs.list.Needs as need
 
 pub returns-in-Ok : need.returns-in-Ok

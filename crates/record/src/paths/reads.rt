@@ -1,10 +1,8 @@
 ghost use mathlib.Core.Path.{_≡_};
-ghost use mathlib.Core.List.{map};
-ghost use Prim.Native.Nat.{ℕ, _+_, _*_, _<_, _≤_};
+ghost use Prim.Native.Nat.{_+_, _*_};
 ghost use lib.ListN.{length, take};
-ghost use Rattle.std.specs.Iters.{counting};
 ghost use Rattle.fault.specs.Firsts.{Verdict};
-ghost use Rattle.record.specs.Layout.{draft, entry-at};
+ghost use Rattle.record.specs.Layout.{draft};
 ghost use Rattle.record.specs.Headers.{Reads-header};
 ghost use Rattle.record.specs.Entries.{entry-number, Entry-applies};
 ghost use Rattle.record.specs.Paths.{paths-draft};

@@ -1,5 +1,5 @@
 use native.Mathlib.Omega.{arith}
-use mathlib.Core.Path.{_≡_, ap}
+use mathlib.Core.Path.{ap}
 use Rattle.record.specs.declared.header.Header.{Header}
 use Rattle.record.specs.Paths.{paths-draft}
 use Rattle.record.proofs.Sound.{draft-length}

@@ -2,7 +2,7 @@ use native.Mathlib.Omega.{arith}
 use mathlib.Core.Path.{_≡_, sym, ap, _∙_}
 use mathlib.Core.List.{_++_, [], _∷_}
 use Prim.Native.Nat.{_+_, _*_, _<_}
-use lib.ListN.{length, take, set}
+use lib.ListN.{length}
 use Rattle.std.proofs.shelf.Lists.{length-set, take-more-set}
 use Rattle.std.proofs.shelf.Counted.{map-counting-more}
 use Rattle.record.specs.Layout.{word, entry-at}
