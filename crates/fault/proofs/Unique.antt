@@ -10,11 +10,11 @@ use Rattle.fault.specs.Reports.{place-of}
 use Rattle.fault.specs.Firsts.{First, By, Sooner}
 use Rattle.fault.specs.Firsts.Sooner.{by-step, by-first, by-second}
 
--- an order in which of any two one comes first
-abbrev pub Total : {X : Type 0} → (X → X → Type 0) → Type 0
-Total {X} Before = (x y : X) → (x ≡ y) ⊎ (Before x y ⊎ Before y x)
+-- of any two that differ, one comes before the other
+abbrev pub Trichotomy : {X : Type 0} → (X → X → Type 0) → Type 0
+Trichotomy {X} Before = (x y : X) → (x ≡ y) ⊎ (Before x y ⊎ Before y x)
 
-pub first-is-one : {X : Type 0} (Before : X → X → Type 0) → Total Before → (P : X → Type 0) (x y : X) → First Before P x → First Before P y → x ≡ y
+pub first-is-one : {X : Type 0} (Before : X → X → Type 0) → Trichotomy Before → (P : X → Type 0) (x y : X) → First Before P x → First Before P y → x ≡ y
 first-is-one Before total P x y p q = ⊎-elim (λ e. e) (⊎-elim (λ l. absurd (q .1 x l (p .0))) (λ l. absurd (p .1 y l (q .0)))) (total x y)
 
 field-at : ℕ → Field
@@ -30,7 +30,7 @@ found Height = refl
 found Carriers = refl
 found Entries = refl
 
-pub fields-total : Total (By place-of)
+pub fields-total : Trichotomy (By place-of)
 fields-total f g = ⊎-elim (λ e. inl (sym (found f) ∙ ap field-at e ∙ found g)) inr (cases-order (place-of f) (place-of g))
 
 module _ (m n : Meeting) where
@@ -46,5 +46,5 @@ module _ (m n : Meeting) where
   by-firsts s =
       ⊎-elim (by-seconds s) (⊎-elim (λ l. inr (inl (by-first s l))) (λ l. inr (inr (by-first (sym s) l)))) (cases-order (m .first) (n .first))
 
-pub meetings-total : Total Sooner
+pub meetings-total : Trichotomy Sooner
 meetings-total m n = ⊎-elim (by-firsts m n) (⊎-elim (λ l. inr (inl (by-step l))) (λ l. inr (inr (by-step l)))) (cases-order (m .step) (n .step))
