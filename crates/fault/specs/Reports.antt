@@ -1,4 +1,4 @@
--- What each fault of a plan record is called: its number, its layer and its three places.
+-- What each fault is called: its number, its layer and its three places.
 use mathlib.Core.List.{List, [], _∷_, _++_}
 use Prim.Native.Nat.{ℕ}
 use lib.Chars.{codes}
@@ -12,8 +12,11 @@ use Rattle.fault.specs.declared.kinds.RecordFault.the-variants.{Short, Header,
 use Rattle.fault.specs.declared.kinds.EntryFault.the-variants.{Record, Flawed}
 use Rattle.fault.specs.declared.kinds.PlanFault.{PlanFault}
 use Rattle.fault.specs.declared.kinds.PlanFault.the-variants.{Entry, Conflict as Conflicting}
+use Rattle.fault.specs.declared.kinds.GraphFault.{GraphFault}
+use Rattle.fault.specs.declared.kinds.GraphFault.the-variants.{Plan, Crossings}
+use Rattle.fault.specs.declared.kinds.RoomFault.{RoomFault}
 use Rattle.fault.specs.declared.report.Layer.{Layer}
-use Rattle.fault.specs.declared.report.Layer.the-variants.{Record as record-layer, Entry as entry-layer, Plan as plan-layer}
+use Rattle.fault.specs.declared.report.Layer.the-variants.{Record as record-layer, Entry as entry-layer, Plan as plan-layer, Graph as graph-layer}
 use Rattle.fault.specs.declared.report.Report.{Report}
 
 -- which of the header's numbers a field is, from 0
@@ -38,6 +41,15 @@ report-of (Entry (Flawed Neighbour k)) = report 6 entry-layer k 0 0
 report-of (Conflicting Clash m) = report 7 plan-layer (m .step) (m .first) (m .second)
 report-of (Conflicting Following m) = report 8 plan-layer (m .step) (m .first) (m .second)
 
+-- What is reported of a graph: the fault of its plan, that it has more crossings than it can hold, or that a list that the caller
+-- lends is too short, and how long it needs to be.
+abbrev pub graph-report : GraphFault → Report
+graph-report (Plan f) = report-of f
+graph-report Crossings = report 9 graph-layer 0 0 0
+
+abbrev pub room-report : RoomFault → Report
+room-report f = report 24 graph-layer (f .needed) 0 0
+
 abbrev pub number-of : PlanFault → ℕ
 number-of f = report-of f .number
 
@@ -52,6 +64,7 @@ abbrev pub layer-text : Layer → List ℕ
 layer-text record-layer = codes "record"
 layer-text entry-layer = codes "entry"
 layer-text plan-layer = codes "plan"
+layer-text graph-layer = codes "graph"
 
 abbrev pub report-text : Report → List ℕ
 report-text r =

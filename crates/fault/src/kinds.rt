@@ -1,6 +1,7 @@
 ghost use mathlib.Core.Path.{_≡_};
 ghost use Rattle.fault.specs.declared.kinds.EntryFault.the-variants.{Record};
 ghost use Rattle.fault.specs.declared.kinds.PlanFault.the-variants.{Entry};
+ghost use Rattle.fault.specs.declared.kinds.GraphFault.the-variants.{Plan};
 
 /// A number of the record's header.
 #[derive(Clone, Copy, PartialEq, Eq, Debug)]
@@ -65,6 +66,21 @@ pub enum PlanFault {
     Conflict(Conflict, Meeting),
 }
 
+/// Why a record gives no graph.
+#[derive(Clone, Copy, PartialEq, Eq, Debug)]
+pub enum GraphFault {
+    Plan(PlanFault),
+    /// more crossings than a graph holds
+    Crossings,
+}
+
+/// A list that the caller lends is too short.
+#[derive(Clone, Copy, PartialEq, Eq, Debug)]
+pub struct RoomFault {
+    /// the length that it needs
+    pub needed: u16,
+}
+
 pub impl From<RecordFault> for EntryFault as EntryFromRecord {
     ghost converts = { λ f r. r ≡ Record f };
 
@@ -78,5 +94,13 @@ pub impl From<EntryFault> for PlanFault as PlanFromEntry {
 
     fn from(fault: EntryFault) -> PlanFault {
         PlanFault::Entry(fault)
+    }
+}
+
+pub impl From<PlanFault> for GraphFault as GraphFromPlan {
+    ghost converts = { λ f r. r ≡ Plan f };
+
+    fn from(fault: PlanFault) -> GraphFault {
+        GraphFault::Plan(fault)
     }
 }

@@ -1,12 +1,14 @@
 ghost use mathlib.Core.Path.{_≡_};
 ghost use Rattle.std.specs.declared.option.Option.the-variants.{Some};
-ghost use Rattle.fault.specs.Reports.{place-of, report-of, layer-text, report-text};
+ghost use Rattle.fault.specs.Reports.{place-of, report-of, graph-report, room-report, layer-text, report-text};
 use crate::kinds::Conflict;
 use crate::kinds::EntryFault;
 use crate::kinds::Field;
 use crate::kinds::Flaw;
+use crate::kinds::GraphFault;
 use crate::kinds::PlanFault;
 use crate::kinds::RecordFault;
+use crate::kinds::RoomFault;
 use std::fmt;
 
 /// The part of the work that found a fault.
@@ -15,6 +17,7 @@ pub enum Layer {
     Record,
     Entry,
     Plan,
+    Graph,
 }
 
 /// A fault as others are told of it: its number, its layer and three places. Places that it does
@@ -105,6 +108,27 @@ impl PlanFault {
     }
 }
 
+impl GraphFault {
+    /// What others are told of the fault: of a plan's fault what they are told of that.
+    pub fn report(&self) -> Report
+        ensures { λ r. ⌜ r ≡ graph-report (now (self .entry)) ⌝ }
+    {
+        match self {
+            GraphFault::Plan(fault) => fault.report(),
+            GraphFault::Crossings => Report::new(9, Layer::Graph, [0, 0, 0]),
+        }
+    }
+}
+
+impl RoomFault {
+    /// What others are told of the fault.
+    pub fn report(&self) -> Report
+        ensures { λ r. ⌜ r ≡ room-report (now (self .entry)) ⌝ }
+    {
+        Report::new(24, Layer::Graph, [self.needed, 0, 0])
+    }
+}
+
 pub impl fmt::Display for Layer as LayerDisplay {
     ghost shown = { λ l. Some (layer-text l) };
 
@@ -113,6 +137,7 @@ pub impl fmt::Display for Layer as LayerDisplay {
             Layer::Record => f.write_str("record"),
             Layer::Entry => f.write_str("entry"),
             Layer::Plan => f.write_str("plan"),
+            Layer::Graph => f.write_str("graph"),
         }
     }
 }

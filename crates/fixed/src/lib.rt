@@ -1,0 +1,2 @@
+//! Lists in fixed memory.
+pub mod list;

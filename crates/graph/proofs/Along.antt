@@ -1,0 +1,57 @@
+-- Sums over links are sums along the edges that the links are.
+use mathlib.Core.Path.{_≡_, sym, ap, _∙_}
+use mathlib.Core.Bool.{true, cond, _&&_}
+use mathlib.Core.List.{List, [], _∷_, _++_, map}
+use Prim.Native.Nat.{ℕ, zero, suc, _+_, _<_}
+use native.Mathlib.Omega.{arith}
+use lib.Dec.{eqb, ltb}
+use lib.ListN.{length}
+use Rattle.std.specs.Iters.{counting}
+use Rattle.std.specs.Joined.{joined}
+use Rattle.std.specs.shelf.Lists.{All}
+use Rattle.std.proofs.shelf.Elements.{all-map, all-weaker, kept-by-passes}
+use Rattle.std.proofs.shelf.Tests.{and-parts, ltb-true}
+use Rattle.walk.specs.declared.visit.Visit.{Visit}
+use Rattle.walk.specs.declared.crossing.Crossing.{Crossing}
+use Rattle.walk.specs.declared.crossing.Ways.{Ways}
+use Rattle.walk.specs.Edges.{Edge, from, to, is-edge, edges, has-next, visit, crossing}
+use Rattle.walk.specs.Edges.Edge.{path-edge, plan-edge, reversed-edge}
+use Rattle.walk.specs.Values.{Operations, Laws}
+use Rattle.walk.specs.Sums.{total, sum-over}
+use Rattle.walk.proofs.Sums.{over-edge, sum-none, sum-more}
+use Rattle.graph.specs.declared.links.Link.{Link}
+use Rattle.graph.specs.Links.{link, links, link-from, link-to, Within, Between}
+
+pub next-there : (vs : List Visit) (v : ℕ) → has-next vs v ≡ true → v + 1 < length vs
+next-there vs v h = ltb-true _ _ (and-parts (ltb (v + 1) (length vs)) _ h .0)
+
+module _ (vs : List Visit) (cs : List Crossing) (ways : ℕ → Ways) (between : Between (length vs) cs) where
+  -- an edge leads from a visit to a visit
+  pub edge-within : (e : Edge) → is-edge vs cs ways e ≡ true → Within (length vs) (link cs e)
+  edge-within (path-edge v) h = let n = next-there vs v h in (omega arith, n)
+  edge-within (plan-edge k) h = between k (ltb-true _ _ (and-parts (ltb k (length cs)) _ h .0))
+  edge-within (reversed-edge k) h =
+      let (l, r) = and-parts (ltb k (length cs)) _ h in
+      let b = between k (ltb-true _ _ l) in
+      (next-there vs _ (and-parts (ways k .reversed) _ r .1), omega arith)
+
+  pub links-within : All (Within (length vs)) (links vs cs ways)
+  links-within =
+      all-map (Within (length vs)) (link cs) (edges vs cs ways)
+      (all-weaker (λ e. is-edge vs cs ways e ≡ true) (λ e. Within (length vs) (link cs e)) edge-within (edges vs cs ways)
+      (kept-by-passes (is-edge vs cs ways)
+      (map path-edge (counting 0 (length vs)) ++ joined (λ k. plan-edge k ∷ reversed-edge k ∷ []) (counting 0 (length cs)))))
+
+module _ {K : Type 0} (ops : Operations K) (laws : Laws ops) (vs : List Visit) (cs : List Crossing) (es : List Edge) (start : ℕ → K) where
+  over-links : (f g : ℕ → K) → ((u : ℕ) → f u ≡ g u) → (v : ℕ) (fs : List Edge) → map (over-edge ops laws vs link-from link-to start f v) (map (link cs) fs) ≡ map (over-edge ops laws vs (from cs) (to cs) start g v) fs
+  over-links f g same v [] = λ i. []
+  over-links f g same v (e ∷ fs) =
+      λ i. cond (eqb (to cs e) v) (ops .carry (same (from cs e) i) (visit vs v)) (ops .blank) ∷ over-links f g same v fs i
+
+  pub sum-links : (k v : ℕ) → sum-over ops vs link-from link-to (map (link cs) es) start k v ≡ sum-over ops vs (from cs) (to cs) es start k v
+  sum-links zero v =
+      sum-none ops laws vs link-from link-to start (map (link cs) es) v ∙ sym (sum-none ops laws vs (from cs) (to cs) start es v)
+  sum-links (suc k) v =
+      sum-more ops laws vs link-from link-to start (map (link cs) es) k v
+      ∙ ap (λ xs. ops .merge (start v) (total ops xs)) (over-links (sum-over ops vs link-from link-to (map (link cs) es) start k) (sum-over ops vs (from cs) (to cs) es start k) (sum-links k) v es)
+      ∙ sym (sum-more ops laws vs (from cs) (to cs) start es k v)

@@ -1,0 +1,10 @@
+use native.Mathlib.Omega.{arith}
+use Rattle.std.proofs.shelf.Lists.{ext-getD}
+use Rattle.graph.proofs.sums.settle.Needs as need
+
+pub returns : need.returns
+returns g c =
+    record {
+      after = c .copy-from-slice .ensures .after;
+      quiet = λ q. ext-getD (g .K·Kind .ops .blank) _ _ (c .pre) (λ i h. c .loop-i .inv q i (omega arith));
+    }

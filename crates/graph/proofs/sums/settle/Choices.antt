@@ -1,0 +1,10 @@
+use Prim.Native.Nat.{ℕ, _<_}
+use mathlib.Core.Path.{_≡_}
+use mathlib.Core.Bool.{true}
+use lib.ListN.{getD}
+use Rattle.graph.proofs.sums.settle.Given as given
+
+abbrev pub Inv-loop-i : given.InvT-loop-i
+Inv-loop-i g l =
+    let blank = g .K·Kind .ops .blank in
+    l .quiet ≡ true → (k : ℕ) → k < l .i → getD (l .values) k blank ≡ getD (l .next) k blank

@@ -1,0 +1,3 @@
+pub mod Links
+pub mod Rounds
+pub mod Graphs

@@ -1,0 +1,5 @@
+pub mod Picked
+pub mod Entered
+pub mod Few
+pub mod Ordered
+pub mod Times

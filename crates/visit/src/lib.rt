@@ -1,0 +1,3 @@
+//! The visits of a plan, and where they cross.
+pub mod crossings;
+pub mod visits;

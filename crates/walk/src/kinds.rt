@@ -1,0 +1,49 @@
+ghost use mathlib.Core.Path.{_≡_};
+ghost use Rattle.std.specs.Orderings.{Decides};
+ghost use Rattle.walk.specs.Values.{Operations, Laws, Idempotent};
+use crate::visit::Visit;
+
+pub mod carriers;
+pub mod steps;
+pub mod marks;
+
+/// A kind of value that is carried along walks and joined where they meet.
+pub trait Kind: Copy {
+    ghost ops: { Operations Self };
+
+    law laws: { Laws ops };
+
+    law idempotent: { Idempotent ops };
+
+    /// The value that stands for nothing.
+    fn zero() -> Self
+        ensures { λ r. ⌜ r ≡ ops .blank ⌝ };
+
+    fn join(self, other: Self) -> Self
+        ensures { λ r. ⌜ r ≡ ops .merge self other ⌝ };
+
+    /// What becomes of the value as it enters a visit.
+    fn step(self, visit: Visit) -> Self
+        ensures { λ r. ⌜ r ≡ ops .carry self visit ⌝ };
+
+    fn same(self, other: Self) -> bool
+        ensures { λ r. ⌜ Decides r (self ≡ other) ⌝ };
+}
+
+/// Whether a visit is reached.
+#[derive(Clone, Copy, PartialEq, Eq, Debug)]
+pub struct Mark {
+    pub set: bool,
+}
+
+/// The earliest step at which a visit can come, if it is reached.
+#[derive(Clone, Copy, PartialEq, Eq, Debug)]
+pub struct Earliest {
+    pub step: Option<u16>,
+}
+
+/// The carriers that have a part in reaching a visit, a bit for each.
+#[derive(Clone, Copy, PartialEq, Eq, Debug)]
+pub struct CarrierSet {
+    pub bits: u16,
+}
