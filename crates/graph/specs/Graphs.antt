@@ -1,24 +1,27 @@
 -- The graph of a plan.
 use mathlib.Core.Path.{_≡_}
-use mathlib.Core.Bool.{false}
-use mathlib.Core.List.{List, map}
+use mathlib.Core.Bool.{true, false}
+use mathlib.Core.List.{List, [], map}
 use Prim.Native.Nat.{ℕ, _≤_, _<_}
 use lib.ListN.{length}
+use Rattle.std.specs.declared.option.Option.{Option}
+use Rattle.std.specs.declared.option.Option.the-variants.{Some, None}
 use Rattle.record.specs.Layout.{Draft}
+use Rattle.plan.specs.declared.accepted.Plan.{Plan}
+use Rattle.plan.specs.Plans.{plan-draft}
 use Rattle.walk.specs.declared.visit.Visit.{Visit}
 use Rattle.walk.specs.declared.crossing.Crossing.{Crossing}
-use Rattle.walk.specs.Edges.{Edge, crossing}
-use Rattle.walk.specs.Ways.{Candidate, Test-walk, Tested}
+use Rattle.walk.specs.Edges.{crossing}
+use Rattle.walk.specs.Ways.{Tested}
 use Rattle.visit.specs.Visits.{plan-visits}
 use Rattle.visit.specs.Crossings.{plan-crossings}
 
--- a crossing, whether or not it is two-way
+-- a crossing made one-way, or two-way
 abbrev pub one-way : Crossing → Crossing
 one-way x = record { cell = x .cell; first = x .first; second = x .second; «two_way» = false }
 
--- crossing k passes the test
-abbrev pub Passes : List Visit → List Crossing → ℕ → Type 0
-Passes vs cs k = Candidate vs cs k × ((w : List Edge) → Test-walk vs cs k w → ⊥)
+abbrev pub two-way : Crossing → Crossing
+two-way x = record { cell = x .cell; first = x .first; second = x .second; «two_way» = true }
 
 -- the crossings from k on are still one-way
 abbrev pub Untested : List Crossing → ℕ → Type 0
@@ -33,3 +36,8 @@ pub record Graph-of (d : Draft) (vs : List Visit) (cs : List Crossing) : Type 0 
   pub visits-are : vs ≡ plan-visits d
   pub crossings-are : map one-way cs ≡ plan-crossings vs
   pub two-way-are : Judges vs cs (length cs)
+
+-- what an accepted plan says; no plan has no carriers
+abbrev pub held : Option Plan → Draft
+held None = record { width = 0; height = 0; carriers = 0; entries = [] }
+held (Some p) = plan-draft p

@@ -1,3 +1,4 @@
 pub mod Links
 pub mod Rounds
 pub mod Graphs
+pub mod Verdicts

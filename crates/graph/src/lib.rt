@@ -1,4 +1,5 @@
 //! The temporal plan graph of a plan.
+pub mod graph;
 mod links;
 mod sums;
 mod two_way;

@@ -1,15 +1,16 @@
 ghost use mathlib.Core.Path.{_≡_};
-ghost use mathlib.Core.Bool.{false, not, _&&_};
+ghost use mathlib.Core.Bool.{not, _&&_};
 ghost use mathlib.Core.List.{List, map};
 ghost use Prim.Native.Nat.{ℕ, _+_, _<_, _≤_};
 ghost use lib.Dec.{eqb};
-ghost use lib.ListN.{length};
+ghost use lib.ListN.{length, set};
 ghost use Rattle.std.specs.Orderings.{Decides};
 ghost use Rattle.fixed.specs.Items.{items};
 ghost use Rattle.walk.specs.Edges.{Edge, crossing, has-next, is-start};
 ghost use Rattle.walk.specs.Walks.{Graph-walk};
+ghost use Rattle.walk.specs.Ways.{Passes};
 ghost use Rattle.graph.specs.Links.{Between, ways-in};
-ghost use Rattle.graph.specs.Graphs.{one-way, Passes, Untested, Judges};
+ghost use Rattle.graph.specs.Graphs.{one-way, two-way, Untested, Judges};
 use crate::links::has_next;
 use crate::sums::sum_along;
 use fixed::list::Bounded;
@@ -104,6 +105,21 @@ fn passes(visits: &[Visit], crossings: &[Crossing], tested: usize) -> bool
         )
 }
 
+/// Makes a crossing two-way.
+fn turn(crossings: &mut Bounded<Crossing, MAX_CROSSINGS>, turned: usize)
+    requires { ⌜ turned < length (items (now crossings)) ⌝ }
+    ensures { λ _. ⌜ items (now (crossings .exit)) ≡ set (items (now (crossings .entry))) turned (two-way (crossing (items (now (crossings .entry))) turned)) ⌝ }
+{
+    let crossing = crossings.as_slice()[turned];
+    crossings.set(
+        turned,
+        Crossing {
+            two_way: true,
+            ..crossing
+        },
+    );
+}
+
 /// Finds out, one after another, which crossings are two-way.
 pub(crate) fn test_all(visits: &[Visit], crossings: &mut Bounded<Crossing, MAX_CROSSINGS>)
     requires there { ⌜ (length (now visits) ≤ 512) × Between (length (now visits)) (items (now crossings)) ⌝ }
@@ -114,14 +130,7 @@ pub(crate) fn test_all(visits: &[Visit], crossings: &mut Bounded<Crossing, MAX_C
     let count = crossings.as_slice().len();
     for tested in 0..count {
         if passes(visits, crossings.as_slice(), tested) {
-            let crossing = crossings.as_slice()[tested];
-            crossings.set(
-                tested,
-                Crossing {
-                    two_way: true,
-                    ..crossing
-                },
-            );
+            turn(crossings, tested);
         }
     }
 }

@@ -137,4 +137,4 @@ no-circle vs cs timely test turned choice v e w h =
 
 pub tested-no-circle :
     (vs : List Visit) (cs : List Crossing) → Timely vs cs → ((k : ℕ) → k < length cs → Tested vs cs k) → No-circle vs cs
-tested-no-circle vs cs timely tested = no-circle vs cs timely (λ k l t w h apart one-way. tested k l .two-way-free t w h)
+tested-no-circle vs cs timely tested = no-circle vs cs timely (λ k l t w h apart one-way. tested k l .0 t .1 w h)

@@ -4,6 +4,7 @@ use mathlib.Core.Bool.{Bool, true, false, not, _&&_}
 use mathlib.Core.List.{List, _∷_}
 use Prim.Native.Nat.{ℕ, _+_}
 use lib.Dec.{eqb, ltb}
+use Rattle.std.specs.Orderings.{Decides}
 use Rattle.walk.specs.declared.visit.Visit.{Visit}
 use Rattle.walk.specs.declared.crossing.Crossing.{Crossing}
 use Rattle.walk.specs.declared.crossing.Ways.{Ways}
@@ -22,11 +23,12 @@ test-ways cs k j = record { plan = not (eqb j k); reversed = ltb j k && crossing
 abbrev pub Test-walk : List Visit → List Crossing → ℕ → List Edge → Type 0
 Test-walk vs cs k w = Graph-walk vs cs (test-ways cs k) (crossing cs k .first) (crossing cs k .second + 1) w
 
--- A crossing is two-way exactly when it is a candidate and there is no such walk.
-pub record Tested (vs : List Visit) (cs : List Crossing) (k : ℕ) : Type 0 where
-  pub two-way-candidate : crossing cs k .«two_way» ≡ true → Candidate vs cs k
-  pub two-way-free : crossing cs k .«two_way» ≡ true → (w : List Edge) → Test-walk vs cs k w → ⊥
-  pub free-two-way : Candidate vs cs k → ((w : List Edge) → Test-walk vs cs k w → ⊥) → crossing cs k .«two_way» ≡ true
+-- Crossing k passes the test: it is a candidate and there is no such walk. It is two-way exactly then.
+abbrev pub Passes : List Visit → List Crossing → ℕ → Type 0
+Passes vs cs k = Candidate vs cs k × ((w : List Edge) → Test-walk vs cs k w → ⊥)
+
+abbrev pub Tested : List Visit → List Crossing → ℕ → Type 0
+Tested vs cs k = Decides (crossing cs k .«two_way») (Passes vs cs k)
 
 -- A choice of directions: `turned` says which crossings are passed in the reversed order, and only two-way ones are.
 abbrev pub Choice : List Crossing → (ℕ → Bool) → Type 0

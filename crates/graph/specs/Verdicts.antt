@@ -1,0 +1,52 @@
+-- What loading a record answers.
+use mathlib.Core.Path.{_≡_}
+use mathlib.Core.List.{List}
+use Prim.Native.Nat.{ℕ, _<_}
+use lib.ListN.{length}
+use Rattle.std.specs.declared.result.Result.{Result}
+use Rattle.std.specs.declared.result.Result.the-variants.{Ok, Err}
+use Rattle.fault.specs.declared.kinds.GraphFault.{GraphFault}
+use Rattle.fault.specs.declared.kinds.GraphFault.the-variants.{Plan, Crossings}
+use Rattle.fault.specs.Reports.{graph-report}
+use Rattle.fault.specs.Firsts.{Verdict}
+use Rattle.fixed.specs.Items.{items}
+use Rattle.record.specs.Layout.{Draft, draft}
+use Rattle.plan.specs.Conflicts.{Applies}
+use Rattle.walk.specs.declared.visit.Visit.{Visit}
+use Rattle.walk.specs.declared.crossing.Crossing.{Crossing}
+use Rattle.visit.specs.Visits.{plan-visits}
+use Rattle.visit.specs.Crossings.{plan-crossings}
+use Rattle.graph.specs.declared.graph.Graph.{Graph}
+use Rattle.graph.specs.Graphs.{held}
+
+-- a graph's plan, visits and crossings
+abbrev pub graph-draft : Graph → Draft
+graph-draft g = held (g .plan)
+
+abbrev pub graph-visits : Graph → List Visit
+graph-visits g = items (g .visits)
+
+abbrev pub graph-crossings : Graph → List Crossing
+graph-crossings g = items (g .crossings)
+
+abbrev pub graph-number : GraphFault → ℕ
+graph-number f = graph-report f .number
+
+-- a fault applies to the bytes b
+abbrev pub Graph-applies : List ℕ → GraphFault → Type 0
+Graph-applies b (Plan f) = Applies b f
+Graph-applies b Crossings = 1024 < length (plan-crossings (plan-visits (draft b)))
+
+-- The verdict on a record's bytes b: what they say, and then no fault applies to them; or the first fault that does, by number.
+abbrev pub Graph-judged : List ℕ → Result Draft GraphFault → Type 0
+Graph-judged b v = Verdict graph-number (Graph-applies b) (λ d. d ≡ draft b) v
+
+-- what a load tells: what the plan of the graph says that it made, or a fault
+abbrev pub graph-told : Result Unit GraphFault → Graph → Result Draft GraphFault
+graph-told (Ok u) g = Ok (graph-draft g)
+graph-told (Err f) g = Err f
+
+-- the same of a graph that is made anew
+abbrev pub made-told : Result Graph GraphFault → Result Draft GraphFault
+made-told (Ok g) = Ok (graph-draft g)
+made-told (Err f) = Err f
