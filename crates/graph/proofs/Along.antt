@@ -5,10 +5,12 @@ use mathlib.Core.List.{List, [], _∷_, _++_, map}
 use Prim.Native.Nat.{ℕ, zero, suc, _+_, _<_}
 use native.Mathlib.Omega.{arith}
 use lib.Dec.{eqb, ltb}
-use lib.ListN.{length}
+use lib.ListN.{length, take}
 use Rattle.std.specs.Iters.{counting}
 use Rattle.std.specs.Joined.{joined}
 use Rattle.std.specs.shelf.Lists.{All}
+use Rattle.std.proofs.shelf.Lists.{getD-take}
+use Rattle.std.proofs.shelf.Counted.{fill-by-all, length-map-counting, getD-map-counting}
 use Rattle.std.proofs.shelf.Elements.{all-map, all-weaker, kept-by-passes}
 use Rattle.std.proofs.shelf.Tests.{and-parts, ltb-true}
 use Rattle.walk.specs.declared.visit.Visit.{Visit}
@@ -17,10 +19,10 @@ use Rattle.walk.specs.declared.crossing.Ways.{Ways}
 use Rattle.walk.specs.Edges.{Edge, from, to, is-edge, edges, has-next, visit, crossing}
 use Rattle.walk.specs.Edges.Edge.{path-edge, plan-edge, reversed-edge}
 use Rattle.walk.specs.Values.{Operations, Laws}
-use Rattle.walk.specs.Sums.{total, sum-over}
-use Rattle.walk.proofs.Sums.{over-edge, sum-none, sum-more}
+use Rattle.walk.specs.Sums.{total, sum-over, sum-at}
+use Rattle.walk.proofs.Sums.{over-edge, sum-none, sum-more, sum-starts}
 use Rattle.graph.specs.declared.links.Link.{Link}
-use Rattle.graph.specs.Links.{link, links, link-from, link-to, Within, Between}
+use Rattle.graph.specs.Links.{link, links, link-from, link-to, Within, Between, starts-in}
 
 pub next-there : (vs : List Visit) (v : ℕ) → has-next vs v ≡ true → v + 1 < length vs
 next-there vs v h = ltb-true _ _ (and-parts (ltb (v + 1) (length vs)) _ h .0)
@@ -35,12 +37,17 @@ module _ (vs : List Visit) (cs : List Crossing) (ways : ℕ → Ways) (between :
       let b = between k (ltb-true _ _ l) in
       (next-there vs _ (and-parts (ways k .reversed) _ r .1), omega arith)
 
-  pub links-within : All (Within (length vs)) (links vs cs ways)
-  links-within =
-      all-map (Within (length vs)) (link cs) (edges vs cs ways)
-      (all-weaker (λ e. is-edge vs cs ways e ≡ true) (λ e. Within (length vs) (link cs e)) edge-within (edges vs cs ways)
+  edges-within : All (λ e. Within (length vs) (link cs e)) (edges vs cs ways)
+  edges-within =
+      all-weaker (λ e. is-edge vs cs ways e ≡ true) (λ e. Within (length vs) (link cs e)) edge-within (edges vs cs ways)
       (kept-by-passes (is-edge vs cs ways)
-      (map path-edge (counting 0 (length vs)) ++ joined (λ k. plan-edge k ∷ reversed-edge k ∷ []) (counting 0 (length cs)))))
+      (map path-edge (counting 0 (length vs)) ++ joined (λ k. plan-edge k ∷ reversed-edge k ∷ []) (counting 0 (length cs))))
+
+  edges-from : All (λ e. from cs e < length vs) (edges vs cs ways)
+  edges-from = all-weaker (λ e. Within (length vs) (link cs e)) (λ e. from cs e < length vs) (λ e w. w .0) (edges vs cs ways) edges-within
+
+  pub links-within : All (Within (length vs)) (links vs cs ways)
+  links-within = all-map (Within (length vs)) (link cs) (edges vs cs ways) edges-within
 
 module _ {K : Type 0} (ops : Operations K) (laws : Laws ops) (vs : List Visit) (cs : List Crossing) (es : List Edge) (start : ℕ → K) where
   over-links : (f g : ℕ → K) → ((u : ℕ) → f u ≡ g u) → (v : ℕ) (fs : List Edge) → map (over-edge ops laws vs link-from link-to start f v) (map (link cs) fs) ≡ map (over-edge ops laws vs (from cs) (to cs) start g v) fs
@@ -55,3 +62,19 @@ module _ {K : Type 0} (ops : Operations K) (laws : Laws ops) (vs : List Visit) (
       sum-more ops laws vs link-from link-to start (map (link cs) es) k v
       ∙ ap (λ xs. ops .merge (start v) (total ops xs)) (over-links (sum-over ops vs link-from link-to (map (link cs) es) start k) (sum-over ops vs (from cs) (to cs) es start k) (sum-links k) v es)
       ∙ sym (sum-more ops laws vs (from cs) (to cs) start es k v)
+
+-- of the starting values only those of the visits count
+pub starts-cut :
+    {K : Type 0} (ops : Operations K) (laws : Laws ops) (vs : List Visit) (cs : List Crossing) (ways : ℕ → Ways) (start : List K) →
+    Between (length vs) cs →
+    map (sum-at ops vs cs ways (starts-in (ops .blank) (take (length vs) start))) (counting 0 (length vs)) ≡ map (sum-at ops vs cs ways (starts-in (ops .blank) start)) (counting 0 (length vs))
+starts-cut ops laws vs cs ways start between =
+    fill-by-all (sum-at ops vs cs ways (starts-in (ops .blank) start))
+    (map (sum-at ops vs cs ways (starts-in (ops .blank) (take (length vs) start))) (counting 0 (length vs)))
+    (length vs)
+    (ops .blank)
+    (length-map-counting (sum-at ops vs cs ways (starts-in (ops .blank) (take (length vs) start))) 0 (length vs))
+    (λ v h.
+        getD-map-counting (sum-at ops vs cs ways (starts-in (ops .blank) (take (length vs) start))) 0 (length vs) v v (ops .blank) h (omega arith)
+        ∙ sum-starts ops laws vs (from cs) (to cs) (edges vs cs ways) (starts-in (ops .blank) (take (length vs) start)) (starts-in (ops .blank) start) (length vs)
+            (edges-from vs cs ways between) (λ u l. getD-take (length vs) start u (ops .blank) l) (length vs) v h)

@@ -96,3 +96,8 @@ module _ (g : Graph) where
         ap length (g .crossed),
         ap (λ vs. length (plan-crossings vs)) (g .visited),
       )
+
+  -- what sums ask of the lists of visits and crossings that code has of the graph
+  pub graph-ready : (vs : List Visit) (cs : List Crossing) → vs ≡ graph-visits g → cs ≡ graph-crossings g → (length vs ≤ 512) × (length cs ≤ 1024) × Between (length vs) cs
+  graph-ready vs cs v c =
+      rw (v, c) (items-few (g .visits), items-few (g .crossings), timely-between (graph-visits g) (graph-crossings g) timely)

@@ -6,3 +6,4 @@ pub mod Reached
 pub mod Testing
 pub mod Facts
 pub mod Judging
+pub mod Single

@@ -2,3 +2,4 @@ pub mod Links
 pub mod Rounds
 pub mod Graphs
 pub mod Verdicts
+pub mod Figures

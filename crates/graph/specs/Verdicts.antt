@@ -17,7 +17,7 @@ use Rattle.walk.specs.declared.crossing.Crossing.{Crossing}
 use Rattle.visit.specs.Visits.{plan-visits}
 use Rattle.visit.specs.Crossings.{plan-crossings}
 use Rattle.graph.specs.declared.graph.Graph.{Graph}
-use Rattle.graph.specs.Graphs.{held}
+use Rattle.graph.specs.Graphs.{held, Graph-of}
 
 -- a graph's plan, visits and crossings
 abbrev pub graph-draft : Graph → Draft
@@ -40,6 +40,16 @@ Graph-applies b Crossings = 1024 < length (plan-crossings (plan-visits (draft b)
 -- The verdict on a record's bytes b: what they say, and then no fault applies to them; or the first fault that does, by number.
 abbrev pub Graph-judged : List ℕ → Result Draft GraphFault → Type 0
 Graph-judged b v = Verdict graph-number (Graph-applies b) (λ d. d ≡ draft b) v
+
+-- b has no verdict but v
+abbrev pub Graph-only : List ℕ → Result Draft GraphFault → Type 0
+Graph-only b v = (w : Result Draft GraphFault) → Graph-judged b w → w ≡ v
+
+-- a graph is that of its plan, and its plan has no other
+pub record Graph-is (g : Graph) : Type 0 where
+  pub built : Graph-of (graph-draft g) (graph-visits g) (graph-crossings g)
+  pub single :
+      (vs : List Visit) (cs : List Crossing) → Graph-of (graph-draft g) vs cs → (vs ≡ graph-visits g) × (cs ≡ graph-crossings g)
 
 -- what a load tells: what the plan of the graph says that it made, or a fault
 abbrev pub graph-told : Result Unit GraphFault → Graph → Result Draft GraphFault

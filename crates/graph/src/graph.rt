@@ -12,7 +12,9 @@ use walk::crossing::Crossing;
 use walk::crossing::MAX_CROSSINGS;
 use walk::visit::Visit;
 
+pub mod answers;
 pub mod loads;
+pub mod reads;
 
 /// The temporal plan graph of an accepted plan, or of no plan and no carriers.
 pub struct Graph {

@@ -77,3 +77,7 @@ visits-fit es i =
       ap length (joined-counting (carrier-visits es) i),
       length-append (first-visits es i) (carrier-visits es i),
     )
+
+-- one carrier more
+pub first-more : (es : List Entry) (n : ℕ) → length (first-visits es (n + 1)) ≡ length (first-visits es n) + length (carrier-visits es n)
+first-more es n = ap length (joined-counting (carrier-visits es) n) ∙ length-append (first-visits es n) (carrier-visits es n)

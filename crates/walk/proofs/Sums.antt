@@ -86,3 +86,15 @@ module _ {K : Type 0} (ops : Operations K) (laws : Laws ops) where
           ∙ ap (λ xs. ops .merge (start u) (total ops xs)) (over-same (sum (k + j)) (sum k) n u es within (sum-stays k n within quiet j))
           ∙ sym (sum-more k u)
           ∙ quiet u h
+
+-- starting values matter only at the visits that walks can come from
+pub sum-starts :
+    {K E : Type 0} (ops : Operations K) (laws : Laws ops) (vs : List Visit) (from to : E → ℕ) (es : List E) (start other : ℕ → K) (n : ℕ) →
+    All (λ e. from e < n) es → ((u : ℕ) → u < n → start u ≡ other u) → (k v : ℕ) → v < n →
+    sum-over ops vs from to es start k v ≡ sum-over ops vs from to es other k v
+sum-starts ops laws vs from to es start other n within same zero v h =
+    sum-none ops laws vs from to start es v ∙ same v h ∙ sym (sum-none ops laws vs from to other es v)
+sum-starts ops laws vs from to es start other n within same (suc k) v h =
+    sum-more ops laws vs from to start es k v
+    ∙ (λ i. ops .merge (same v h i) (total ops (over-same ops laws vs from to start es (sum-over ops vs from to es start k) (sum-over ops vs from to es other k) n v es within (sum-starts ops laws vs from to es start other n within same k) i)))
+    ∙ sym (sum-more ops laws vs from to other es k v)

@@ -39,6 +39,10 @@ steps =
       carry = λ x v. earliest (one-more (x .step));
     }
 
+-- on a first visit they start at 0
+abbrev pub first-step : Visit → Earliest
+first-step v = earliest (Some 0)
+
 -- carrier sets, a bit for each of the sixteen carriers: empty, union, and a step adds the carrier that enters, unless the set is empty
 abbrev pub carrier-set : ℕ → CarrierSet
 carrier-set n = record { bits = n }
@@ -56,3 +60,7 @@ sets =
       merge = λ x y. carrier-set (bitOr (x .bits) (y .bits));
       carry = λ x v. carrier-set (with-carrier (x .bits) (v .carrier));
     }
+
+-- on a first visit they start with the own carrier
+abbrev pub own-carrier : Visit → CarrierSet
+own-carrier v = carrier-set (carrier-bit (v .carrier))

@@ -1,5 +1,6 @@
 ghost use mathlib.Core.Path.{_≡_};
 ghost use Rattle.std.specs.Orderings.{Decides};
+ghost use Rattle.walk.specs.declared.visit.Visit.{Visit};
 ghost use Rattle.walk.specs.Values.{Operations, Laws, Idempotent};
 use crate::visit::Visit;
 
@@ -28,6 +29,15 @@ pub trait Kind: Copy {
 
     fn same(self, other: Self) -> bool
         ensures { λ r. ⌜ Decides r (self ≡ other) ⌝ };
+}
+
+/// A kind whose values start on each carrier's first visit.
+pub trait Starting: Kind {
+    ghost starting: { Visit → Self };
+
+    /// The value that starts on a first visit.
+    fn start(visit: Visit) -> Self
+        ensures { λ r. ⌜ r ≡ starting visit ⌝ };
 }
 
 /// Whether a visit is reached.

@@ -10,8 +10,8 @@ ghost use Rattle.plan.specs.Plans.{plan-draft};
 ghost use Rattle.visit.specs.Visits.{plan-visits};
 ghost use Rattle.visit.specs.Crossings.{plan-crossings};
 ghost use Rattle.walk.specs.Ways.{No-circle};
-ghost use Rattle.graph.specs.Graphs.{Graph-of, held};
-ghost use Rattle.graph.specs.Verdicts.{graph-draft, graph-visits, graph-crossings, Graph-judged, graph-told, made-told};
+ghost use Rattle.graph.specs.Graphs.{held};
+ghost use Rattle.graph.specs.Verdicts.{graph-draft, graph-visits, graph-crossings, Graph-judged, Graph-only, Graph-is, graph-told, made-told};
 use super::Graph;
 use crate::two_way::test_all;
 use fault::kinds::GraphFault;
@@ -73,8 +73,9 @@ impl Graph {
     /// record and leaves the graph as it was.
     pub fn load(&mut self, bytes: &[u8]) -> Result<(), GraphFault>
         ensures judged { λ r. ⌜ Graph-judged (now (bytes .entry)) (graph-told r (now (self .exit))) ⌝ }
+        ensures only { λ r. ⌜ Graph-only (now (bytes .entry)) (graph-told r (now (self .exit))) ⌝ }
         ensures kept { λ r. ⌜ refused r (λ _. now (self .exit) ≡ now (self .entry)) ⌝ }
-        ensures built { λ _. ⌜ Graph-of (graph-draft (now (self .exit))) (graph-visits (now (self .exit))) (graph-crossings (now (self .exit))) ⌝ }
+        ensures built { λ _. ⌜ Graph-is (now (self .exit)) ⌝ }
         ensures acyclic { λ _. ⌜ No-circle (graph-visits (now (self .exit))) (graph-crossings (now (self .exit))) ⌝ }
     {
         let graph = read_graph(bytes)?;

@@ -1,7 +1,8 @@
 ghost use mathlib.Core.Path.{_≡_};
-ghost use Rattle.walk.specs.Kinds.{sets, carrier-bit};
+ghost use Rattle.walk.specs.Kinds.{sets, own-carrier, carrier-bit};
 use super::CarrierSet;
 use super::Kind;
+use super::Starting;
 use crate::visit::Visit;
 
 /// The set of one carrier; there are sixteen carriers.
@@ -36,5 +37,15 @@ pub impl Kind for CarrierSet as CarrierSetKind {
 
     fn same(self, other: CarrierSet) -> bool {
         self.bits == other.bits
+    }
+}
+
+pub impl Starting for CarrierSet as CarrierSetStarting {
+    ghost starting = { own-carrier };
+
+    fn start(visit: Visit) -> CarrierSet {
+        CarrierSet {
+            bits: bit(visit.carrier),
+        }
     }
 }

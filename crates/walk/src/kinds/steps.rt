@@ -1,6 +1,7 @@
-ghost use Rattle.walk.specs.Kinds.{steps};
+ghost use Rattle.walk.specs.Kinds.{steps, first-step};
 use super::Earliest;
 use super::Kind;
+use super::Starting;
 use crate::visit::Visit;
 
 pub impl Kind for Earliest as EarliestKind {
@@ -31,5 +32,13 @@ pub impl Kind for Earliest as EarliestKind {
 
     fn same(self, other: Earliest) -> bool {
         self.step == other.step
+    }
+}
+
+pub impl Starting for Earliest as EarliestStarting {
+    ghost starting = { first-step };
+
+    fn start(_visit: Visit) -> Earliest {
+        Earliest { step: Some(0) }
     }
 }
