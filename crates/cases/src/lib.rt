@@ -1,3 +1,7 @@
-//! Records by example: the lines that floorlist prints for them.
+//! Records and graphs by example.
+#[cfg(test)]
+mod graphs;
+#[cfg(test)]
+mod records;
 #[cfg(test)]
 mod tests;

@@ -1,3 +1,4 @@
+use crate::records::record;
 use listing::list;
 use plan::accepted::Plan;
 use std::alloc::AllocError;
@@ -13,13 +14,48 @@ struct Case {
     text: &'static str,
 }
 
-static CASES: [Case; 38] = [
+static CASES: [Case; 43] = [
     Case {
         about: "the example",
         header: [3, 3, 2, 8],
         carriers: &[0, 0, 0, 1, 1, 1, 1, 1],
         cells: &[3, 4, 5, 1, 1, 1, 4, 7],
-        text: "plan 3 3 2 8\ncarrier 0 visits 3\ncarrier 1 visits 3\n",
+        text: "plan 3 3 2 8\ncarrier 0 visits 3 earliest 2 relies 0\ncarrier 1 visits 3 earliest 4 relies 1\ncrossing 0 cell 4 first 1 second 4 twoway\n",
+    },
+    Case {
+        about: "one carrier behind another all the way",
+        header: [6, 1, 2, 9],
+        carriers: &[0, 0, 0, 0, 1, 1, 1, 1, 1],
+        cells: &[2, 3, 4, 5, 0, 1, 2, 3, 4],
+        text: "plan 6 1 2 9\ncarrier 0 visits 4 earliest 3 relies 0\ncarrier 1 visits 5 earliest 4 relies 1\ncrossing 0 cell 2 first 0 second 6 oneway\ncrossing 1 cell 3 first 1 second 7 oneway\ncrossing 2 cell 4 first 2 second 8 oneway\n",
+    },
+    Case {
+        about: "an earlier two-way crossing makes a later candidate one-way",
+        header: [2, 2, 2, 10],
+        carriers: &[0, 0, 0, 0, 0, 1, 1, 1, 1, 1],
+        cells: &[0, 1, 0, 2, 0, 3, 2, 3, 1, 3],
+        text: "plan 2 2 2 10\ncarrier 0 visits 5 earliest 4 relies 1\ncarrier 1 visits 5 earliest 4 relies 1\ncrossing 0 cell 1 first 1 second 8 twoway\ncrossing 1 cell 2 first 6 second 3 oneway\n",
+    },
+    Case {
+        about: "a first visit that is its carrier's start is not to be passed",
+        header: [3, 3, 2, 7],
+        carriers: &[0, 0, 1, 1, 1, 1, 1],
+        cells: &[4, 5, 1, 1, 1, 4, 7],
+        text: "plan 3 3 2 7\ncarrier 0 visits 2 earliest 1 relies 0\ncarrier 1 visits 3 earliest 3 relies 1\ncrossing 0 cell 4 first 0 second 3 oneway\n",
+    },
+    Case {
+        about: "a second visit that is its carrier's last is not to be left",
+        header: [3, 3, 2, 7],
+        carriers: &[0, 0, 0, 1, 1, 1, 1],
+        cells: &[3, 4, 5, 1, 1, 1, 4],
+        text: "plan 3 3 2 7\ncarrier 0 visits 3 earliest 2 relies 0\ncarrier 1 visits 2 earliest 3 relies 1\ncrossing 0 cell 4 first 1 second 4 oneway\n",
+    },
+    Case {
+        about: "three carriers through one cell",
+        header: [3, 3, 3, 15],
+        carriers: &[0, 0, 0, 1, 1, 1, 1, 1, 2, 2, 2, 2, 2, 2, 2],
+        cells: &[3, 4, 5, 1, 1, 1, 4, 7, 6, 6, 6, 3, 3, 4, 1],
+        text: "plan 3 3 3 15\ncarrier 0 visits 3 earliest 2 relies 0\ncarrier 1 visits 3 earliest 4 relies 1\ncarrier 2 visits 4 earliest 6 relies 2\ncrossing 0 cell 3 first 0 second 7 oneway\ncrossing 1 cell 4 first 1 second 4 twoway\ncrossing 2 cell 4 first 1 second 8 oneway\ncrossing 3 cell 1 first 3 second 9 oneway\ncrossing 4 cell 4 first 4 second 8 oneway\n",
     },
     Case {
         about: "carrier 1 enters as carrier 0 leaves",
@@ -75,7 +111,7 @@ static CASES: [Case; 38] = [
         header: [2, 2, 1, 6],
         carriers: &[0, 0, 0, 0, 0, 0],
         cells: &[0, 0, 1, 1, 0, 0],
-        text: "plan 2 2 1 6\ncarrier 0 visits 3\n",
+        text: "plan 2 2 1 6\ncarrier 0 visits 3 earliest 2 relies 0\n",
     },
     Case {
         about: "a width of 0",
@@ -89,7 +125,7 @@ static CASES: [Case; 38] = [
         header: [64, 1, 1, 1],
         carriers: &[0],
         cells: &[63],
-        text: "plan 64 1 1 1\ncarrier 0 visits 1\n",
+        text: "plan 64 1 1 1\ncarrier 0 visits 1 earliest 0 relies 0\n",
     },
     Case {
         about: "a width of 65",
@@ -110,7 +146,7 @@ static CASES: [Case; 38] = [
         header: [64, 64, 1, 1],
         carriers: &[0],
         cells: &[4095],
-        text: "plan 64 64 1 1\ncarrier 0 visits 1\n",
+        text: "plan 64 64 1 1\ncarrier 0 visits 1 earliest 0 relies 0\n",
     },
     Case {
         about: "a height of 65",
@@ -138,7 +174,7 @@ static CASES: [Case; 38] = [
         header: [4, 4, 16, 16],
         carriers: &[0, 1, 2, 3, 4, 5, 6, 7, 8, 9, 10, 11, 12, 13, 14, 15],
         cells: &[0, 1, 2, 3, 4, 5, 6, 7, 8, 9, 10, 11, 12, 13, 14, 15],
-        text: "plan 4 4 16 16\ncarrier 0 visits 1\ncarrier 1 visits 1\ncarrier 2 visits 1\ncarrier 3 visits 1\ncarrier 4 visits 1\ncarrier 5 visits 1\ncarrier 6 visits 1\ncarrier 7 visits 1\ncarrier 8 visits 1\ncarrier 9 visits 1\ncarrier 10 visits 1\ncarrier 11 visits 1\ncarrier 12 visits 1\ncarrier 13 visits 1\ncarrier 14 visits 1\ncarrier 15 visits 1\n",
+        text: "plan 4 4 16 16\ncarrier 0 visits 1 earliest 0 relies 0\ncarrier 1 visits 1 earliest 0 relies 0\ncarrier 2 visits 1 earliest 0 relies 0\ncarrier 3 visits 1 earliest 0 relies 0\ncarrier 4 visits 1 earliest 0 relies 0\ncarrier 5 visits 1 earliest 0 relies 0\ncarrier 6 visits 1 earliest 0 relies 0\ncarrier 7 visits 1 earliest 0 relies 0\ncarrier 8 visits 1 earliest 0 relies 0\ncarrier 9 visits 1 earliest 0 relies 0\ncarrier 10 visits 1 earliest 0 relies 0\ncarrier 11 visits 1 earliest 0 relies 0\ncarrier 12 visits 1 earliest 0 relies 0\ncarrier 13 visits 1 earliest 0 relies 0\ncarrier 14 visits 1 earliest 0 relies 0\ncarrier 15 visits 1 earliest 0 relies 0\n",
     },
     Case {
         about: "the last two carriers clash",
@@ -166,7 +202,7 @@ static CASES: [Case; 38] = [
         header: [2, 1, 2, 2],
         carriers: &[0, 1],
         cells: &[0, 1],
-        text: "plan 2 1 2 2\ncarrier 0 visits 1\ncarrier 1 visits 1\n",
+        text: "plan 2 1 2 2\ncarrier 0 visits 1 earliest 0 relies 0\ncarrier 1 visits 1 earliest 0 relies 0\n",
     },
     Case {
         about: "a header alone",
@@ -187,7 +223,7 @@ static CASES: [Case; 38] = [
         header: [1, 1, 1, 1],
         carriers: &[0],
         cells: &[0, 128],
-        text: "plan 1 1 1 1\ncarrier 0 visits 1\n",
+        text: "plan 1 1 1 1\ncarrier 0 visits 1 earliest 0 relies 0\n",
     },
     Case {
         about: "carrier numbers that begin at 1",
@@ -236,7 +272,7 @@ static CASES: [Case; 38] = [
         header: [3, 2, 1, 2],
         carriers: &[0, 0],
         cells: &[4, 5],
-        text: "plan 3 2 1 2\ncarrier 0 visits 2\n",
+        text: "plan 3 2 1 2\ncarrier 0 visits 2 earliest 1 relies 0\n",
     },
     Case {
         about: "a cell past the last",
@@ -271,7 +307,7 @@ static CASES: [Case; 38] = [
         header: [3, 3, 2, 3],
         carriers: &[0, 0, 1],
         cells: &[0, 3, 8],
-        text: "plan 3 3 2 3\ncarrier 0 visits 2\ncarrier 1 visits 1\n",
+        text: "plan 3 3 2 3\ncarrier 0 visits 2 earliest 1 relies 0\ncarrier 1 visits 1 earliest 0 relies 0\n",
     },
     Case {
         about: "a jump comes before a clash",
@@ -281,33 +317,6 @@ static CASES: [Case; 38] = [
         text: "refused 6 entry 1 0 0\n",
     },
 ];
-
-/// Adds a number in two bytes, the low one first.
-fn push_word(bytes: &mut Vec<u8>, word: u16) -> Result<(), AllocError> {
-    bytes.push((word & 0xff) as u8)?;
-    bytes.push((word >> 8) as u8)?;
-    Ok(())
-}
-
-/// The bytes of a record: the header, the carrier numbers, the cells.
-fn record(
-    heap: Global,
-    header: [u16; 4],
-    carriers: &[u8],
-    cells: &[u16],
-) -> Result<Vec<u8>, AllocError> {
-    let mut bytes = Vec::new(heap);
-    for number in header {
-        push_word(&mut bytes, number)?;
-    }
-    for carrier in carriers {
-        bytes.push(*carrier)?;
-    }
-    for cell in cells {
-        push_word(&mut bytes, *cell)?;
-    }
-    Ok(bytes)
-}
 
 #[test]
 fn records_are_listed(rt: LibcRuntime) -> Result<(), Fail> {
@@ -354,7 +363,7 @@ fn waiting(heap: Global, entries: u16) -> Result<String, AllocError> {
 fn entries_end_at_512(rt: LibcRuntime) -> Result<(), Fail> {
     check_eq(
         waiting(rt.alloc(), 512)?.as_str(),
-        "plan 1 1 1 512\ncarrier 0 visits 1\n",
+        "plan 1 1 1 512\ncarrier 0 visits 1 earliest 0 relies 0\n",
     )?;
     check_eq(
         waiting(rt.alloc(), 513)?.as_str(),

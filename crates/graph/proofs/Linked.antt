@@ -13,7 +13,6 @@ use Rattle.std.proofs.shelf.Counted.{length-counting, getD-counting}
 use Rattle.std.proofs.shelf.Elements.{kept-by-append, all-from-getD}
 use Rattle.std.proofs.shelf.Lists.{length-append, append-assoc, map-append}
 use Rattle.std.proofs.shelf.Tests.{lt-ltb}
-use Rattle.fixed.proofs.Counting.{joined-counting}
 use Rattle.walk.specs.declared.visit.Visit.{Visit}
 use Rattle.walk.specs.declared.crossing.Crossing.{Crossing}
 use Rattle.walk.specs.declared.crossing.Ways.{Ways}
@@ -39,10 +38,6 @@ taken-links-le vs x taken =
 -- a list that grows
 pub grown : {A : Type 0} (before added after : List A) (m : ℕ) → after ≡ before ++ added → length added ≤ m → length after ≤ length before + m
 grown before added after m is few = omega (arith, ap length is, length-append before added)
-
-pub one-more : {A : Type 0} (f : ℕ → List A) (n : ℕ) (old before after : List A) → before ≡ old ++ joined f (counting 0 n) → after ≡ before ++ f n → after ≡ old ++ joined f (counting 0 (n + 1))
-one-more f n old before after was is =
-    is ∙ ap (λ xs. xs ++ f n) was ∙ append-assoc old (joined f (counting 0 n)) (f n) ∙ ap (λ xs. old ++ xs) (sym (joined-counting f n))
 
 kept-one : {X Y : Type 0} (g : X → Y) (b : Bool) (x : X) (ys : List X) → map g (cond b (x ∷ ys) ys) ≡ cond b (g x ∷ []) [] ++ map g ys
 kept-one g true x ys = refl

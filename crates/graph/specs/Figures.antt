@@ -58,16 +58,12 @@ starts blank start vs = map (λ v. cond (is-start vs v) (start (visit vs v)) bla
 abbrev pub plan-sum : {K : Type 0} → Operations K → (Visit → K) → List Visit → List Crossing → ℕ → K
 plan-sum ops start vs cs = sum-at ops vs cs plan-ways (starts-in (ops .blank) (starts (ops .blank) start vs))
 
--- the earliest step of carrier i at its last visit
-abbrev pub earliest-step : Graph → ℕ → Option ℕ
-earliest-step g i =
-    cond (ltb i (graph-draft g .carriers))
-    (plan-sum steps first-step (graph-visits g) (graph-crossings g) (last-visit (graph-draft g) i) .step)
-    None
+-- of the carriers of a plan, by its visits and crossings
+module _ (d : Draft) (vs : List Visit) (cs : List Crossing) (i : ℕ) where
+  -- the earliest step of carrier i at its last visit
+  abbrev pub earliest-step : Option ℕ
+  earliest-step = cond (ltb i (d .carriers)) (plan-sum steps first-step vs cs (last-visit d i) .step) None
 
--- how many others carrier i relies on: the members of the set at its last visit, less one
-abbrev pub relied-on : Graph → ℕ → Option ℕ
-relied-on g i =
-    cond (ltb i (graph-draft g .carriers))
-    (Some (ones (plan-sum sets own-carrier (graph-visits g) (graph-crossings g) (last-visit (graph-draft g) i) .bits) - 1))
-    None
+  -- how many others carrier i relies on: the members of the set at its last visit, less one
+  abbrev pub relied-on : Option ℕ
+  relied-on = cond (ltb i (d .carriers)) (Some (ones (plan-sum sets own-carrier vs cs (last-visit d i) .bits) - 1)) None

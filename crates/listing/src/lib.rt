@@ -1,70 +1,98 @@
 //! The text that floorlist prints.
 ghost use mathlib.Core.Path.{_≡_};
+ghost use mathlib.Core.List.{_++_};
+ghost use lib.ListN.{length};
+ghost use Rattle.std.specs.Iters.{counting};
+ghost use Rattle.std.specs.Joined.{joined};
 ghost use Rattle.std.specs.Of.String.{string-bytes};
 ghost use Rattle.std.specs.Vec.{made};
-ghost use Rattle.record.specs.Layout.{front};
-ghost use Rattle.record.specs.Paths.{paths-draft};
-ghost use Rattle.plan.specs.Plans.{told, Judged};
-ghost use Rattle.listing.specs.Texts.{plan-line, carrier-line, refusal-line, plan-text, Listed};
-use fault::kinds::PlanFault;
+ghost use Rattle.walk.specs.Edges.{crossing};
+ghost use Rattle.graph.specs.Verdicts.{graph-draft, graph-visits, graph-crossings};
+ghost use Rattle.listing.specs.Texts.{plan-line, carrier-line, way-text, crossing-line, refusal-line, graph-text, Listed};
+use fault::kinds::GraphFault;
 use fault::report::ReportDisplay;
-use plan::accepted::Plan;
+use graph::graph::Graph;
 use record::layout::split_record;
-use record::paths::Paths;
 use std::alloc::AllocError;
 use std::alloc::Global;
+use walk::crossing::Crossing;
 
-fn plan_line(heap: Global, paths: &Paths) -> Result<String, AllocError>
-    ensures { λ r. ⌜ made r (λ s. string-bytes s ≡ plan-line (paths-draft (now (paths .entry)))) ⌝ }
+fn plan_line(heap: Global, graph: &Graph) -> Result<String, AllocError>
+    ensures { λ r. ⌜ made r (λ s. string-bytes s ≡ plan-line (graph-draft (now (graph .entry)))) ⌝ }
 {
-    let header = paths.header();
-    let width = header.width;
-    let height = header.height;
-    let carriers = header.carriers;
-    let entries = header.entries;
+    let outline = graph.outline();
+    let width = outline.width;
+    let height = outline.height;
+    let carriers = outline.carriers;
+    let entries = outline.entries;
     format!(heap, "plan {width} {height} {carriers} {entries}\n")
 }
 
-fn carrier_line(heap: Global, paths: &Paths, carrier: u8) -> Result<String, AllocError>
-    ensures { λ r. ⌜ made r (λ s. string-bytes s ≡ carrier-line (paths-draft (now (paths .entry))) carrier) ⌝ }
+fn carrier_line(heap: Global, graph: &Graph, carrier: u8) -> Result<String, AllocError>
+    ensures { λ r. ⌜ made r (λ s. string-bytes s ≡ carrier-line (graph-draft (now (graph .entry))) (graph-visits (now (graph .entry))) (graph-crossings (now (graph .entry))) carrier) ⌝ }
 {
-    let visits = paths.visits(carrier);
-    format!(heap, "carrier {carrier} visits {visits}\n")
+    let visits = graph.visits_of(carrier);
+    let earliest = graph.earliest(carrier).unwrap_or(0);
+    let relies = graph.relies(carrier).unwrap_or(0);
+    format!(heap, "carrier {carrier} visits {visits} earliest {earliest} relies {relies}\n")
 }
 
-fn refusal_line(heap: Global, fault: PlanFault) -> Result<String, AllocError>
+fn way(two_way: bool) -> &'static str
+    ensures { λ r. ⌜ now r ≡ way-text «two_way» ⌝ }
+{
+    if two_way { "twoway" } else { "oneway" }
+}
+
+fn crossing_line(heap: Global, number: usize, crossing: Crossing) -> Result<String, AllocError>
+    ensures { λ r. ⌜ made r (λ s. string-bytes s ≡ crossing-line number crossing) ⌝ }
+{
+    let cell = crossing.cell;
+    let first = crossing.first;
+    let second = crossing.second;
+    let way = way(crossing.two_way);
+    format!(heap, "crossing {number} cell {cell} first {first} second {second} {way}\n")
+}
+
+fn refusal_line(heap: Global, fault: GraphFault) -> Result<String, AllocError>
     ensures { λ r. ⌜ made r (λ s. string-bytes s ≡ refusal-line fault) ⌝ }
 {
     let report = fault.report();
     format!(heap, "refused {report}\n")
 }
 
-/// The lines of a plan.
-fn plan_text(heap: Global, paths: &Paths) -> Result<String, AllocError>
-    ensures { λ r. ⌜ made r (λ s. string-bytes s ≡ plan-text (paths-draft (now (paths .entry)))) ⌝ }
+/// The plan's line and a line for each carrier.
+fn plan_text(heap: Global, graph: &Graph) -> Result<String, AllocError>
+    ensures { λ r. ⌜ made r (λ s. string-bytes s ≡ plan-line (graph-draft (now (graph .entry))) ++ joined (carrier-line (graph-draft (now (graph .entry))) (graph-visits (now (graph .entry))) (graph-crossings (now (graph .entry)))) (counting 0 (graph-draft (now (graph .entry)) .carriers))) ⌝ }
 {
-    let mut text = plan_line(heap, paths)?;
-    for carrier in 0..paths.header().carriers {
-        let line = carrier_line(heap, paths, carrier)?;
+    let mut text = plan_line(heap, graph)?;
+    for carrier in 0..graph.outline().carriers {
+        let line = carrier_line(heap, graph, carrier)?;
         text.push_str(line.as_str())?;
     }
     Ok(text)
 }
 
-/// The plan or the fault of the record at the front of some bytes.
-fn read_front(input: &[u8]) -> Result<Plan, PlanFault>
-    ensures { λ r. ⌜ Judged (front (now (input .entry))) (told r) ⌝ }
+/// The lines of a plan and its graph.
+fn graph_text(heap: Global, graph: &Graph) -> Result<String, AllocError>
+    ensures { λ r. ⌜ made r (λ s. string-bytes s ≡ graph-text (graph-draft (now (graph .entry))) (graph-visits (now (graph .entry))) (graph-crossings (now (graph .entry)))) ⌝ }
 {
-    let (record, _) = split_record(input);
-    Plan::read(record)
+    let mut text = plan_text(heap, graph)?;
+    let crossings = graph.crossings();
+    for number in 0..crossings.len() {
+        let line = crossing_line(heap, number, crossings[number])?;
+        text.push_str(line.as_str())?;
+    }
+    Ok(text)
 }
 
 /// The text for floorlist's input: a record and what follows it.
 pub fn list(heap: Global, input: &[u8]) -> Result<String, AllocError>
     ensures { λ r. ⌜ made r (λ text. Listed (now (input .entry)) (string-bytes text)) ⌝ }
 {
-    match read_front(input) {
-        Ok(plan) => plan_text(heap, plan.paths()),
+    let (record, _) = split_record(input);
+    let mut graph = Graph::new();
+    match graph.load(record) {
+        Ok(()) => graph_text(heap, &graph),
         Err(fault) => refusal_line(heap, fault),
     }
 }

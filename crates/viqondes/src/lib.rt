@@ -1,23 +1,23 @@
 //! The library as C calls it.
 ghost use mathlib.Core.Path.{_≡_};
-ghost use Rattle.plan.specs.Plans.{told};
-ghost use Rattle.viqondes.specs.Numbers.{verdict-number, Fault-number};
-use fault::kinds::PlanFault;
-use plan::accepted::Plan;
+ghost use Rattle.viqondes.specs.Numbers.{answer-number, Fault-number};
+use fault::kinds::GraphFault;
+use graph::graph::Graph;
 
-fn number(verdict: Result<Plan, PlanFault>) -> u8
-    ensures { λ r. ⌜ r ≡ verdict-number (told verdict) ⌝ }
+fn number(answer: Result<(), GraphFault>) -> u8
+    ensures { λ r. ⌜ r ≡ answer-number answer ⌝ }
 {
-    match verdict {
-        Ok(_) => 0,
-        Err(fault) => fault.number(),
+    match answer {
+        Ok(()) => 0,
+        Err(fault) => fault.report().number,
     }
 }
 
-/// The number of a plan record's fault, or 0 where it has none.
+/// The number of the fault of a plan record or of its graph, or 0 where there is none.
 #[unsafe(no_mangle)]
 pub extern "C" fn viqondes_plan_fault(bytes: &[u8]) -> u8
     ensures { λ r. ⌜ Fault-number (now (bytes .entry)) r ⌝ }
 {
-    number(Plan::read(bytes))
+    let mut graph = Graph::new();
+    number(graph.load(bytes))
 }

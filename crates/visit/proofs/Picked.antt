@@ -81,10 +81,6 @@ module _ {X : Type 0} (f : ℕ → X) (p : ℕ → Bool) where
 
 -- the lists of the places below n, one after another
 module _ {X : Type 0} (f : ℕ → List X) where
-  -- a turn of a loop that adds them to a list one by one
-  pub joins : (xs ys : List X) (n : ℕ) → xs ≡ joined f (counting 0 n) → ys ≡ xs ++ f n → ys ≡ joined f (counting 0 (n + 1))
-  joins xs ys n before more = more ∙ ap (λ l. l ++ f n) before ∙ sym (joined-counting f n)
-
   pub joined-rises : (m n : ℕ) → m ≤ n → length (joined f (counting 0 m)) ≤ length (joined f (counting 0 n))
   joined-rises =
       rises (λ n. length (joined f (counting 0 n)))

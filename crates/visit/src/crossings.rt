@@ -4,7 +4,7 @@ ghost use Prim.Native.Nat.{_+_, _<_, _≤_};
 ghost use lib.ListN.{length};
 ghost use Rattle.std.specs.Results.{Cases};
 ghost use Rattle.fixed.specs.Items.{items};
-ghost use Rattle.visit.specs.Crossings.{crosses, crossings-from, plan-crossings};
+ghost use Rattle.visit.specs.Crossings.{crosses, crossing-of, crossings-from, plan-crossings};
 use fixed::list::Bounded;
 use fixed::list::methods::Full;
 use record::MAX_ENTRIES;
@@ -21,6 +21,19 @@ fn crosses(visits: &[Visit], first: usize, second: usize) -> bool
     a.carrier != b.carrier && a.cell == b.cell && a.step < b.step
 }
 
+/// The crossing of two visits, one-way as yet.
+fn crossing_at(visits: &[Visit], first: usize, second: usize) -> Crossing
+    requires { ⌜ (length (now visits) ≤ 512) × (first < length (now visits)) × (second < length (now visits)) ⌝ }
+    ensures { λ r. ⌜ r ≡ crossing-of (now (visits .entry)) first second ⌝ }
+{
+    Crossing {
+        cell: visits[first].cell,
+        first: first as u16,
+        second: second as u16,
+        two_way: false,
+    }
+}
+
 /// Adds the crossings of a visit with later ones, while there is room.
 fn add_crossings(
     visits: &[Visit],
@@ -32,12 +45,7 @@ fn add_crossings(
 {
     for second in 0..visits.len() {
         if crosses(visits, first, second) {
-            crossings.push(Crossing {
-                cell: visits[first].cell,
-                first: first as u16,
-                second: second as u16,
-                two_way: false,
-            })?;
+            crossings.push(crossing_at(visits, first, second))?;
         }
     }
     Ok(())
@@ -45,7 +53,7 @@ fn add_crossings(
 
 /// The crossings of some visits, each one-way as yet, unless they are too many.
 pub fn crossings_of(visits: &Bounded<Visit, MAX_ENTRIES>) -> Result<Bounded<Crossing, MAX_CROSSINGS>, Full>
-    ensures { λ r. ⌜ Cases r (λ found. items found ≡ plan-crossings (items (now (visits .entry)))) (λ _. 1024 < length (plan-crossings (items (now (visits .entry))))) ⌝ }
+    ensures { λ r. ⌜ Cases r (λ found. (items found ≡ plan-crossings (items (now (visits .entry)))) × (length (items found) ≤ 1024)) (λ _. 1024 < length (plan-crossings (items (now (visits .entry))))) ⌝ }
 {
     let visits = visits.as_slice();
     let mut crossings = Bounded::new(Crossing {

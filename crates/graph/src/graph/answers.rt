@@ -130,7 +130,7 @@ impl Graph {
     /// The earliest step at which a carrier can come to its last visit, over path and plan edges;
     /// none for a carrier that the plan lacks.
     pub fn earliest(&self, carrier: u8) -> Option<u16>
-        ensures { λ r. ⌜ r ≡ earliest-step (now (self .entry)) carrier ⌝ }
+        ensures { λ r. ⌜ r ≡ earliest-step (graph-draft (now (self .entry))) (graph-visits (now (self .entry))) (graph-crossings (now (self .entry))) carrier ⌝ }
     {
         let last = self.last_visit_of(carrier)?;
         let count = self.visits().len();
@@ -149,7 +149,7 @@ impl Graph {
     /// How many other carriers a carrier relies on to come to its last visit; none for a carrier
     /// that the plan lacks.
     pub fn relies(&self, carrier: u8) -> Option<u32>
-        ensures { λ r. ⌜ r ≡ relied-on (now (self .entry)) carrier ⌝ }
+        ensures { λ r. ⌜ r ≡ relied-on (graph-draft (now (self .entry))) (graph-visits (now (self .entry))) (graph-crossings (now (self .entry))) carrier ⌝ }
     {
         let last = self.last_visit_of(carrier)?;
         let count = self.visits().len();

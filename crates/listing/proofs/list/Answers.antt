@@ -1,14 +1,21 @@
-use mathlib.Core.Path.{ap, _∙_}
+use mathlib.Core.Path.{sym, subst}
+use mathlib.Core.List.{List}
+use Prim.Native.Nat.{ℕ}
 use Rattle.std.specs.declared.result.Result.the-variants.{Ok, Err}
 use Rattle.std.proofs.shelf.Results.{made-weaker}
-use Rattle.plan.specs.Plans.{plan-draft}
-use Rattle.record.specs.Paths.{paths-draft}
-use Rattle.listing.specs.Texts.{plan-text}
+use Rattle.record.specs.Layout.{front}
+use Rattle.graph.specs.Verdicts.{graph-draft, graph-visits, graph-crossings, Graph-judged}
 use Rattle.listing.proofs.list.Needs as need
 
 pub returns-in-Ok : need.returns-in-Ok
 returns-in-Ok c =
-    made-weaker (c .plan-text .result) _ _ (λ s e. (Ok (plan-draft (c .in-Ok .plan)), c .in-Ok .ensures tt, e ∙ ap (λ p. plan-text (paths-draft p)) (c .paths .ensures))) (c .plan-text .ensures)
+    let g = c .load .last .self in
+    let P : List ℕ → Type 0 = λ b. Graph-judged b (Ok (graph-draft g)) in
+    let judged = subst P (c .split-record .ensures .before) (c .in-Ok .ensures tt .judged) in
+    made-weaker (c .graph-text .result) _ _ (λ s e. (Ok (graph-draft g), judged, (graph-visits g, graph-crossings g, c .in-Ok .ensures tt .built .built, e))) (c .graph-text .ensures)
 
 pub returns-in-Err : need.returns-in-Err
-returns-in-Err c = made-weaker (c .refusal-line .result) _ _ (λ s e. (Err (c .in-Err .fault), c .in-Err .ensures tt, e)) (c .refusal-line .ensures)
+returns-in-Err c =
+    let P : List ℕ → Type 0 = λ b. Graph-judged b (Err (c .in-Err .fault)) in
+    let judged = subst P (c .split-record .ensures .before) (c .in-Err .ensures tt .judged) in
+    made-weaker (c .refusal-line .result) _ _ (λ s e. (Err (c .in-Err .fault), judged, e)) (c .refusal-line .ensures)

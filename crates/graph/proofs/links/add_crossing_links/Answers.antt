@@ -2,9 +2,10 @@ use Prim.Native.Nat.{_+_, _≤_}
 use native.Mathlib.Omega.{arith}
 use lib.ListN.{length}
 use Rattle.fixed.specs.Items.{items}
+use Rattle.fixed.proofs.Counting.{one-more}
 use Rattle.walk.specs.Edges.{crossing}
 use Rattle.graph.specs.Links.{crossing-links, ways-in}
-use Rattle.graph.proofs.Linked.{taken-links-le, grown, one-more}
+use Rattle.graph.proofs.Linked.{taken-links-le, grown}
 use Rattle.graph.proofs.links.add_crossing_links.Needs as need
 
 pub loop-k-again : need.loop-k-again

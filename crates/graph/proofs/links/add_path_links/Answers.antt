@@ -5,8 +5,9 @@ use Prim.Native.Nat.{_+_, _≤_}
 use native.Mathlib.Omega.{arith}
 use lib.ListN.{length}
 use Rattle.fixed.specs.Items.{items}
+use Rattle.fixed.proofs.Counting.{one-more}
 use Rattle.graph.specs.Links.{path-link}
-use Rattle.graph.proofs.Linked.{path-link-le, grown, one-more}
+use Rattle.graph.proofs.Linked.{path-link-le, grown}
 use Rattle.graph.proofs.links.add_path_links.Needs as need
 
 pub loop-visit-again : need.loop-visit-again

@@ -35,7 +35,7 @@ loop-second-again c =
     elim (c .if-crosses .came) [
       | then-crosses·in-Continue-push w ↦
           adds-yes f p old before after (c .loop-second .second) (c .loop-second .inv) (sym (w .if-crosses .ensures tt))
-          (rw (w .crossings-is) (w .in-Continue-push .ensures tt))
+          (rw (w .crossings-is, ← w .crossing-at .ensures) (w .in-Continue-push .ensures tt))
       | else-crosses w ↦
           adds-no f p old before after (c .loop-second .second) (c .loop-second .inv) (sym (w .if-crosses .ensures tt))
           (ap items (w .crossings-is))

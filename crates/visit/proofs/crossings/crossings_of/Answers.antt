@@ -1,13 +1,14 @@
 use native.Mathlib.Omega.{arith}
 use mathlib.Core.Path.{ap}
+use mathlib.Core.List.{[]}
 use Prim.Native.Nat.{_+_}
 use lib.ListN.{length}
 use Rattle.std.proofs.shelf.Lists.{length-append}
 use Rattle.std.proofs.shelf.Results.{err-from-errBy}
 use Rattle.fixed.specs.Items.{items}
 use Rattle.visit.specs.Crossings.{crossings-from, crossings-below, plan-crossings}
-use Rattle.fixed.proofs.Counting.{joined-counting}
-use Rattle.visit.proofs.Picked.{joined-rises, joins}
+use Rattle.fixed.proofs.Counting.{joined-counting, one-more}
+use Rattle.visit.proofs.Picked.{joined-rises}
 use Rattle.visit.proofs.crossings.crossings_of.Needs as need
 
 -- what was added before and what was found then are part of all crossings
@@ -28,5 +29,5 @@ returns-in-Break-add-crossings c =
 
 pub loop-first-again : need.loop-first-again
 loop-first-again c =
-    joins (crossings-from (c .as-slice-visits .result .now)) (items (c .loop-first .crossings)) (items (c .add-crossings .last .crossings))
-    (c .loop-first .first) (c .loop-first .inv) (c .in-Continue-add-crossings .ensures tt)
+    one-more (crossings-from (c .as-slice-visits .result .now)) (c .loop-first .first) [] (items (c .loop-first .crossings))
+    (items (c .add-crossings .last .crossings)) (c .loop-first .inv) (c .in-Continue-add-crossings .ensures tt)

@@ -1,14 +1,14 @@
 use native.Mathlib.Omega.{arith}
 use mathlib.Core.Path.{sym, ap, subst}
-use mathlib.Core.List.{List}
+use mathlib.Core.List.{List, []}
 use Prim.Native.Nat.{_+_, _≤_}
 use lib.ListN.{length}
 use Rattle.fixed.specs.Items.{items}
+use Rattle.fixed.proofs.Counting.{one-more}
 use Rattle.record.specs.declared.entry.Entry.{Entry}
 use Rattle.record.specs.Paths.{paths-draft}
 use Rattle.record.proofs.Sound.{draft-few}
 use Rattle.visit.specs.Visits.{carrier-visits}
-use Rattle.visit.proofs.Picked.{joins}
 use Rattle.visit.proofs.Few.{visits-fit}
 use Rattle.visit.proofs.visits.visits_of.Needs as need
 
@@ -25,5 +25,5 @@ pub loop-carrier-again : need.loop-carrier-again
 loop-carrier-again c =
     let i = c .loop-carrier .carrier in
     let before = items (c .loop-carrier .visits) in
-    joins (carrier-visits (paths-draft (c .args .paths .now) .entries)) before (items (c .add-visits .last .visits)) i (c .loop-carrier .inv)
+    one-more (carrier-visits (paths-draft (c .args .paths .now) .entries)) i [] before (items (c .add-visits .last .visits)) (c .loop-carrier .inv)
     (rw (← c .entries .ensures) (c .add-visits .ensures))

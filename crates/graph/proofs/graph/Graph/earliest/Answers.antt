@@ -1,18 +1,17 @@
 use borrow.Author.Needs.{needs}
 use native.Mathlib.Omega.{arith}
-use mathlib.Core.Path.{_≡_, sym, ap, subst, _∙_}
+use mathlib.Core.Path.{_≡_, sym, ap, _∙_}
 use mathlib.Core.Bool.{cond}
 use Prim.Native.Nat.{_<_}
-use lib.Dec.{ltb}
 use lib.ListN.{length, getD}
 use Rattle.std.proofs.shelf.Lists.{getD-append-left}
 use Rattle.std.proofs.shelf.Counted.{getD-map-counting}
 use Rattle.std.proofs.shelf.Tests.{lt-ltb}
-use Rattle.std.specs.declared.option.Option.the-variants.{Some, None}
+use Rattle.std.specs.declared.option.Option.the-variants.{None}
 use Rattle.walk.specs.Kinds.{earliest, steps, first-step}
 use Rattle.visit.specs.Visits.{last-visit}
 use Rattle.graph.specs.Verdicts.{graph-draft, graph-visits, graph-crossings}
-use Rattle.graph.specs.Figures.{plan-sum, earliest-step}
+use Rattle.graph.specs.Figures.{plan-sum}
 use Rattle.graph.proofs.graph.Graph.earliest.Needs as need
 
 pub returns : need.returns

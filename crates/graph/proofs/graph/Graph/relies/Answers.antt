@@ -13,7 +13,7 @@ use Rattle.std.specs.declared.option.Option.the-variants.{Some, None}
 use Rattle.walk.specs.Kinds.{carrier-set, sets, own-carrier}
 use Rattle.visit.specs.Visits.{last-visit}
 use Rattle.graph.specs.Verdicts.{graph-draft, graph-visits, graph-crossings}
-use Rattle.graph.specs.Figures.{plan-sum, relied-on}
+use Rattle.graph.specs.Figures.{plan-sum}
 use Rattle.graph.proofs.graph.Graph.relies.Needs as need
 
 pub returns : need.returns

@@ -19,7 +19,7 @@ test-all-requires c κs =
     let vs = items (c .visits-of-visits .result) in
     let cs = items (c .in-Ok .crossings) in
     let visited = c .visits-of-visits .ensures ∙ ap (λ r. plan-visits (paths-draft r)) (c .paths .ensures) in
-    let crossed = c .in-Ok .ensures tt in
+    let crossed = c .in-Ok .ensures tt .0 in
     let flat : map one-way cs ≡ cs = ap (map one-way) crossed ∙ plan-one-way vs ∙ sym crossed in
     let timely = graph-timely (plan-draft (c .args .plan)) vs cs (c .args .plan .clear) visited (flat ∙ crossed) in
     let Ready : List Visit → Type 0 = λ xs. (length xs ≤ 512) × Between (length xs) cs in
@@ -31,7 +31,7 @@ pub ghost-result : need.ghost-result
 ghost-result c =
     let vs = items (c .visits-of-visits .result) in
     let cs = items (c .test-all .last .crossings) in
-    let found = c .in-Ok .ensures tt in
+    let found = c .in-Ok .ensures tt .0 in
     let visited : vs ≡ plan-visits (plan-draft (c .args .plan)) = c .visits-of-visits .ensures ∙ ap (λ r. plan-visits (paths-draft r)) (c .paths .ensures) in
     let crossed : map one-way cs ≡ plan-crossings vs = c .test-all .ensures .same ∙ ap (map one-way) found ∙ plan-one-way vs in
     let P : List Visit → Type 0 = λ xs. Judges xs cs (length cs) in
