@@ -1,4 +1,4 @@
-/* Prints the fault number of the plan record in each file that is named. */
+/* Prints the fault number of the plan record, or of its graph, in each file that is named. */
 #include <stdio.h>
 
 #include "viqondes.h"

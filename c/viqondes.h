@@ -9,9 +9,10 @@
 extern "C" {
 #endif
 
-/* The number of the record's fault, or 0 where it has none. `bytes` points to `len` bytes that the
-   call may read and nobody writes meanwhile; it is not null, not even where `len` is 0. The call
-   keeps nothing, allocates nothing and always returns. docs/RECORD.md lists the numbers. */
+/* The number of the fault of the record or of its graph, or 0 where there is none. `bytes` points
+   to `len` bytes that the call may read and nobody writes meanwhile; it is not null, not even where
+   `len` is 0. The call keeps nothing, allocates nothing and always returns. docs/RECORD.md and
+   docs/GRAPH.md list the numbers. */
 uint8_t viqondes_plan_fault(const uint8_t *bytes, size_t len);
 
 #ifdef __cplusplus
