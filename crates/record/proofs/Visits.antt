@@ -73,9 +73,10 @@ module _ (r : List ℕ) (c : ℕ) where
   below-same k l h =
       λ i. eqb k 0 || not (eqb (getD-append-left r (c ∷ []) 0 (k - 1) (omega arith) i) (getD-append-left r (c ∷ []) 0 k (omega arith) i))
 
-  here : (o : Option ℕ) (b : Bool) → Last r o → Enters o c b → visit-at (r ++ c ∷ []) (length r) ≡ b
-  here None b e enters = ap (λ x. visit-at (x ++ c ∷ []) (length x)) e ∙ sym enters
-  here (Some before) b (some, e) enters =
+  -- the next cell is a visit exactly if it is entered anew
+  pub visit-here : (o : Option ℕ) (b : Bool) → Last r o → Enters o c b → visit-at (r ++ c ∷ []) (length r) ≡ b
+  visit-here None b e enters = ap (λ x. visit-at (x ++ c ∷ []) (length x)) e ∙ sym enters
+  visit-here (Some before) b (some, e) enters =
       ap (λ t. t || not (eqb (getD (r ++ c ∷ []) (length r - 1) 0) (getD (r ++ c ∷ []) (length r) 0))) (ne-eqb (length r) 0 (λ z. omega arith))
       ∙ (λ i. not (eqb ((getD-append-left r (c ∷ []) 0 (length r - 1) (omega arith) ∙ e) i) (getD-push r c 0 (length r) refl i)))
       ∙ sym enters
@@ -84,5 +85,5 @@ module _ (r : List ℕ) (c : ℕ) where
   visits-more o b last enters =
       ap (λ n. countBy (visit-at (r ++ c ∷ [])) (counting 0 n)) (length-push r c)
       ∙ count-more (visit-at (r ++ c ∷ [])) (length r)
-      ∙ (λ i. count-same (visit-at (r ++ c ∷ [])) (visit-at r) 0 (length r) below-same i + one (here o b last enters i))
+      ∙ (λ i. count-same (visit-at (r ++ c ∷ [])) (visit-at r) 0 (length r) below-same i + one (visit-here o b last enters i))
       ∙ ap (λ n. visit-count r + n) (one-is b)

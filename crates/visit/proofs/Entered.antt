@@ -11,12 +11,11 @@ use Rattle.std.specs.declared.option.Option.the-variants.{Some, None}
 use Rattle.std.specs.shelf.Lists.{kept-by}
 use Rattle.std.proofs.shelf.Lists.{length-push, length-append, getD-push, getD-append-left, length-take-le, map-append, append-assoc, take-append-drop, take-all}
 use Rattle.std.proofs.shelf.Elements.{kept-by-append}
-use Rattle.std.proofs.shelf.Tests.{ne-eqb}
 use Rattle.record.specs.declared.entry.Entry.{Entry}
 use Rattle.record.specs.Steps.{path, visit-at}
 use Rattle.record.specs.Entries.{entry}
 use Rattle.record.proofs.Steps.{path-le, path-own, path-other}
-use Rattle.record.proofs.Visits.{Last, Enters, last-more}
+use Rattle.record.proofs.Visits.{Last, Enters, last-more, visit-here}
 use Rattle.walk.specs.declared.visit.Visit.{Visit}
 use Rattle.visit.specs.Visits.{visit-of, carrier-visits}
 use Rattle.visit.proofs.Picked.{picked, picked-yes, picked-no, picked-rises, picked-same}
@@ -59,26 +58,19 @@ module _ (i : ℕ) (r : List ℕ) (c : ℕ) (o : Option ℕ) (last : Last r o) w
   abbrev longer : List ℕ
   longer = r ++ c ∷ []
 
-  here : (b : Bool) (o : Option ℕ) → Last r o → Enters o c b → visit-at longer (length r) ≡ b
-  here b None e enters = ap (λ x. visit-at (x ++ c ∷ []) (length x)) e ∙ sym enters
-  here b (Some previous) (some, e) enters =
-      ap (λ t. t || not (eqb (getD longer (length r - 1) 0) (getD longer (length r) 0))) (ne-eqb (length r) 0 (λ z. omega arith))
-      ∙ (λ j. not (eqb ((getD-append-left r (c ∷ []) 0 (length r - 1) (omega arith) ∙ e) j) (getD-push r c 0 (length r) refl j)))
-      ∙ sym enters
-
   newest : visit-of i longer (length r) ≡ record { carrier = i; cell = c; step = length r }
   newest = λ j. record { carrier = i; cell = getD-push r c 0 (length r) refl j; step = length r }
 
   on-new : Enters o c true → visits-on i longer ≡ visits-on i r ++ record { carrier = i; cell = c; step = length r } ∷ []
   on-new enters =
       ap (picked (visit-of i longer) (visit-at longer)) (length-push r c)
-      ∙ picked-yes (visit-of i longer) (visit-at longer) (length r) (here true o last enters)
+      ∙ picked-yes (visit-of i longer) (visit-at longer) (length r) (visit-here r c o true last enters)
       ∙ (λ j. before i r (c ∷ []) j ++ newest j ∷ [])
 
   on-old : Enters o c false → visits-on i longer ≡ visits-on i r
   on-old enters =
       ap (picked (visit-of i longer) (visit-at longer)) (length-push r c)
-      ∙ picked-no (visit-of i longer) (visit-at longer) (length r) (here false o last enters)
+      ∙ picked-no (visit-of i longer) (visit-at longer) (length r) (visit-here r c o false last enters)
       ∙ before i r (c ∷ [])
 
 -- what k entries of es made of carrier i's visits, added to the list old, of the step of its next entry, and of its last cell
