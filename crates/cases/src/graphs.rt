@@ -10,9 +10,11 @@ use fault::report::Report;
 use fault::report::ReportDebug;
 use fault::report::ReportPartialEq;
 use graph::graph::Graph;
+use listing::list;
 use std::alloc::AllocError;
 use std::alloc::Global;
 use std::test::*;
+use viqondes::viqondes_plan_fault;
 use walk::crossing::Crossing;
 use walk::crossing::CrossingDebug;
 use walk::crossing::CrossingPartialEq;
@@ -29,20 +31,14 @@ const NONE: Crossing = Crossing {
     two_way: true,
 };
 
-/// Loads the example: carrier 0 goes by cells 3, 4, 5, and carrier 1 by 1, 4, 7 after it.
-fn load_example(heap: Global, graph: &mut Graph) -> Result<Result<(), GraphFault>, AllocError> {
-    let bytes = record(
-        heap,
-        [3, 3, 2, 8],
-        &[0, 0, 0, 1, 1, 1, 1, 1],
-        &[3, 4, 5, 1, 1, 1, 4, 7],
-    )?;
-    Ok(graph.load(bytes.as_slice()))
-}
+/// The example: carrier 0 goes by cells 3, 4, 5, and carrier 1 by 1, 4, 7 after it.
+const EXAMPLE: [u8; 32] = [
+    3, 0, 3, 0, 2, 0, 8, 0, 0, 0, 0, 1, 1, 1, 1, 1, 3, 0, 4, 0, 5, 0, 1, 0, 1, 0, 1, 0, 4, 0, 7, 0,
+];
 
 /// A plan of two carriers that come into one cell in turn, each 32 times, and of two more that
 /// cross once if `more` says so.
-fn load_crowd(heap: Global, graph: &mut Graph, more: bool) -> Result<Result<(), GraphFault>, AllocError> {
+fn crowd(heap: Global, more: bool) -> Result<Vec<u8>, AllocError> {
     let mut carriers = Vec::new(heap);
     let mut cells = Vec::new(heap);
     for _ in 0..32 {
@@ -69,8 +65,7 @@ fn load_crowd(heap: Global, graph: &mut Graph, more: bool) -> Result<Result<(), 
             cells.push(cell)?;
         }
     }
-    let bytes = record(heap, header, carriers.as_slice(), cells.as_slice())?;
-    Ok(graph.load(bytes.as_slice()))
+    record(heap, header, carriers.as_slice(), cells.as_slice())
 }
 
 #[test]
@@ -84,9 +79,9 @@ fn a_new_graph_has_no_carriers() -> Result<(), Fail> {
 }
 
 #[test]
-fn carriers_are_told_of(rt: LibcRuntime) -> Result<(), Fail> {
+fn carriers_are_told_of() -> Result<(), Fail> {
     let mut graph = Graph::new();
-    check_eq(load_example(rt.alloc(), &mut graph)?, Ok(()))?;
+    check_eq(graph.load(&EXAMPLE), Ok(()))?;
     check_eq(graph.moves(), 4)?;
     check_eq(graph.visits_of(1), 3)?;
     check_eq(graph.earliest(1), Some(4))?;
@@ -97,12 +92,11 @@ fn carriers_are_told_of(rt: LibcRuntime) -> Result<(), Fail> {
 }
 
 #[test]
-fn crossings_are_listed_where_there_is_room(rt: LibcRuntime) -> Result<(), Fail> {
+fn crossings_are_listed_where_there_is_room() -> Result<(), Fail> {
     let mut graph = Graph::new();
-    check_eq(load_example(rt.alloc(), &mut graph)?, Ok(()))?;
-    let mut none = [NONE; 0];
+    check_eq(graph.load(&EXAMPLE), Ok(()))?;
     check_eq(
-        graph.list_crossings(&mut none),
+        graph.list_crossings(&mut [NONE; 0]),
         Err(RoomFault { needed: 1 }),
     )?;
     let mut list = [NONE; 2];
@@ -120,11 +114,12 @@ fn crossings_are_listed_where_there_is_room(rt: LibcRuntime) -> Result<(), Fail>
 #[test]
 fn a_refused_record_leaves_the_graph(rt: LibcRuntime) -> Result<(), Fail> {
     let mut graph = Graph::new();
-    check_eq(load_example(rt.alloc(), &mut graph)?, Ok(()))?;
+    check_eq(graph.load(&EXAMPLE), Ok(()))?;
     check_eq(graph.load(&[]).is_err(), true)?;
     check_eq(graph.visits().len(), 6)?;
+    let crowded = crowd(rt.alloc(), true)?;
     check_eq(
-        load_crowd(rt.alloc(), &mut graph, true)?,
+        graph.load(crowded.as_slice()),
         Err(GraphFault::Crossings),
     )?;
     check_eq(graph.crossings().len(), 1)
@@ -133,12 +128,18 @@ fn a_refused_record_leaves_the_graph(rt: LibcRuntime) -> Result<(), Fail> {
 #[test]
 fn crossings_end_at_1024(rt: LibcRuntime) -> Result<(), Fail> {
     let mut graph = Graph::new();
-    check_eq(load_crowd(rt.alloc(), &mut graph, false)?, Ok(()))?;
+    let full = crowd(rt.alloc(), false)?;
+    check_eq(graph.load(full.as_slice()), Ok(()))?;
     check_eq(graph.crossings().len(), 1024)?;
+    let mut list = [NONE; 1023];
     check_eq(
-        load_crowd(rt.alloc(), &mut graph, true)?,
-        Err(GraphFault::Crossings),
-    )
+        graph.list_crossings(&mut list),
+        Err(RoomFault { needed: 1024 }),
+    )?;
+    check_eq(list[0], NONE)?;
+    // a graph can be loaded again
+    check_eq(graph.load(&EXAMPLE), Ok(()))?;
+    check_eq(graph.crossings().len(), 1)
 }
 
 #[test]
@@ -158,9 +159,9 @@ fn faults_of_graphs_have_their_numbers() -> Result<(), Fail> {
 }
 
 #[test]
-fn sums_go_over_the_edges_that_are_taken(rt: LibcRuntime) -> Result<(), Fail> {
+fn sums_go_over_the_edges_that_are_taken() -> Result<(), Fail> {
     let mut graph = Graph::new();
-    check_eq(load_example(rt.alloc(), &mut graph)?, Ok(()))?;
+    check_eq(graph.load(&EXAMPLE), Ok(()))?;
     let mut ways = [Ways {
         plan: false,
         reversed: false,
@@ -182,9 +183,28 @@ fn sums_go_over_the_edges_that_are_taken(rt: LibcRuntime) -> Result<(), Fail> {
 }
 
 #[test]
-fn sums_want_room_for_every_visit(rt: LibcRuntime) -> Result<(), Fail> {
+fn steps_end_at_their_bound() -> Result<(), Fail> {
     let mut graph = Graph::new();
-    check_eq(load_example(rt.alloc(), &mut graph)?, Ok(()))?;
+    check_eq(graph.load(&EXAMPLE), Ok(()))?;
+    let ways = [Ways {
+        plan: true,
+        reversed: false,
+    }; 1024];
+    let mut start = [Earliest { step: None }; 6];
+    start[0] = Earliest { step: Some(65534) };
+    let mut sums = start;
+    let mut spare = start;
+    check_eq(graph.sum(&ways, &start, &mut sums, &mut spare), Ok(()))?;
+    check_eq(sums[2].step, Some(65535))?;
+    // over the crossing's plan edge, and on
+    check_eq(sums[5].step, Some(65535))?;
+    check_eq(sums[3].step, None)
+}
+
+#[test]
+fn sums_want_room_for_every_visit() -> Result<(), Fail> {
+    let mut graph = Graph::new();
+    check_eq(graph.load(&EXAMPLE), Ok(()))?;
     let ways = [Ways {
         plan: true,
         reversed: false,
@@ -196,5 +216,22 @@ fn sums_want_room_for_every_visit(rt: LibcRuntime) -> Result<(), Fail> {
         graph.sum(&ways, &start, &mut sums, &mut spare),
         Err(RoomFault { needed: 6 }),
     )?;
-    check_eq(sums[0].step, Some(1))
+    check_eq(sums[0].step, Some(1))?;
+    check_eq(
+        graph.sum(&ways, &start[0..5], &mut [start[0]; 6], &mut spare),
+        Err(RoomFault { needed: 6 }),
+    )?;
+    check_eq(spare[0].step, None)
+}
+
+#[test]
+fn c_is_told_of_the_graph(rt: LibcRuntime) -> Result<(), Fail> {
+    check_eq(viqondes_plan_fault(&EXAMPLE), 0)?;
+    check_eq(viqondes_plan_fault(&EXAMPLE[0..31]), 3)?;
+    let crowded = crowd(rt.alloc(), true)?;
+    check_eq(viqondes_plan_fault(crowded.as_slice()), 9)?;
+    check_eq(
+        list(rt.alloc(), crowded.as_slice())?.as_str(),
+        "refused 9 graph 0 0 0\n",
+    )
 }

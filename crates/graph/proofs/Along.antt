@@ -22,7 +22,8 @@ use Rattle.walk.specs.Values.{Operations, Laws}
 use Rattle.walk.specs.Sums.{total, sum-over, sum-at}
 use Rattle.walk.proofs.Sums.{over-edge, sum-none, sum-more, sum-starts}
 use Rattle.graph.specs.declared.links.Link.{Link}
-use Rattle.graph.specs.Links.{link, links, link-from, link-to, Within, Between, starts-in}
+use Rattle.graph.specs.Links.{link, links, link-from, link-to, Within, Between}
+use Rattle.graph.specs.Inputs.{starts-in}
 
 pub next-there : (vs : List Visit) (v : ℕ) → has-next vs v ≡ true → v + 1 < length vs
 next-there vs v h = ltb-true _ _ (and-parts (ltb (v + 1) (length vs)) _ h .0)
@@ -53,28 +54,28 @@ module _ {K : Type 0} (ops : Operations K) (laws : Laws ops) (vs : List Visit) (
   over-links : (f g : ℕ → K) → ((u : ℕ) → f u ≡ g u) → (v : ℕ) (fs : List Edge) → map (over-edge ops laws vs link-from link-to start f v) (map (link cs) fs) ≡ map (over-edge ops laws vs (from cs) (to cs) start g v) fs
   over-links f g same v [] = λ i. []
   over-links f g same v (e ∷ fs) =
-      λ i. cond (eqb (to cs e) v) (ops .carry (same (from cs e) i) (visit vs v)) (ops .blank) ∷ over-links f g same v fs i
+      λ i. cond (eqb (to cs e) v) (ops .step (same (from cs e) i) (visit vs v)) (ops .zero) ∷ over-links f g same v fs i
 
   pub sum-links : (k v : ℕ) → sum-over ops vs link-from link-to (map (link cs) es) start k v ≡ sum-over ops vs (from cs) (to cs) es start k v
   sum-links zero v =
       sum-none ops laws vs link-from link-to start (map (link cs) es) v ∙ sym (sum-none ops laws vs (from cs) (to cs) start es v)
   sum-links (suc k) v =
       sum-more ops laws vs link-from link-to start (map (link cs) es) k v
-      ∙ ap (λ xs. ops .merge (start v) (total ops xs)) (over-links (sum-over ops vs link-from link-to (map (link cs) es) start k) (sum-over ops vs (from cs) (to cs) es start k) (sum-links k) v es)
+      ∙ ap (λ xs. ops .join (start v) (total ops xs)) (over-links (sum-over ops vs link-from link-to (map (link cs) es) start k) (sum-over ops vs (from cs) (to cs) es start k) (sum-links k) v es)
       ∙ sym (sum-more ops laws vs (from cs) (to cs) start es k v)
 
 -- of the starting values only those of the visits count
 pub starts-cut :
     {K : Type 0} (ops : Operations K) (laws : Laws ops) (vs : List Visit) (cs : List Crossing) (ways : ℕ → Ways) (start : List K) →
     Between (length vs) cs →
-    map (sum-at ops vs cs ways (starts-in (ops .blank) (take (length vs) start))) (counting 0 (length vs)) ≡ map (sum-at ops vs cs ways (starts-in (ops .blank) start)) (counting 0 (length vs))
+    map (sum-at ops vs cs ways (starts-in (ops .zero) (take (length vs) start))) (counting 0 (length vs)) ≡ map (sum-at ops vs cs ways (starts-in (ops .zero) start)) (counting 0 (length vs))
 starts-cut ops laws vs cs ways start between =
-    fill-by-all (sum-at ops vs cs ways (starts-in (ops .blank) start))
-    (map (sum-at ops vs cs ways (starts-in (ops .blank) (take (length vs) start))) (counting 0 (length vs)))
+    fill-by-all (sum-at ops vs cs ways (starts-in (ops .zero) start))
+    (map (sum-at ops vs cs ways (starts-in (ops .zero) (take (length vs) start))) (counting 0 (length vs)))
     (length vs)
-    (ops .blank)
-    (length-map-counting (sum-at ops vs cs ways (starts-in (ops .blank) (take (length vs) start))) 0 (length vs))
+    (ops .zero)
+    (length-map-counting (sum-at ops vs cs ways (starts-in (ops .zero) (take (length vs) start))) 0 (length vs))
     (λ v h.
-        getD-map-counting (sum-at ops vs cs ways (starts-in (ops .blank) (take (length vs) start))) 0 (length vs) v v (ops .blank) h (omega arith)
-        ∙ sum-starts ops laws vs (from cs) (to cs) (edges vs cs ways) (starts-in (ops .blank) (take (length vs) start)) (starts-in (ops .blank) start) (length vs)
-            (edges-from vs cs ways between) (λ u l. getD-take (length vs) start u (ops .blank) l) (length vs) v h)
+        getD-map-counting (sum-at ops vs cs ways (starts-in (ops .zero) (take (length vs) start))) 0 (length vs) v v (ops .zero) h (omega arith)
+        ∙ sum-starts ops laws vs (from cs) (to cs) (edges vs cs ways) (starts-in (ops .zero) (take (length vs) start)) (starts-in (ops .zero) start) (length vs)
+            (edges-from vs cs ways between) (λ u l. getD-take (length vs) start u (ops .zero) l) (length vs) v h)

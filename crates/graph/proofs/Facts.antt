@@ -29,13 +29,14 @@ use Rattle.visit.specs.Crossings.{crosses, crossing-of, crossings-from, plan-cr
 use Rattle.visit.proofs.Times.{plan-timely}
 use Rattle.graph.specs.Links.{Between}
 use Rattle.graph.specs.declared.graph.Graph.{Graph}
-use Rattle.graph.specs.Graphs.{one-way, Untested, Judges, Graph-of, held}
+use Rattle.graph.specs.Graphs.{one-way, All-tested, Graph-of, held}
+use Rattle.graph.specs.Tests.{Untested}
 use Rattle.graph.specs.Verdicts.{graph-draft, graph-visits, graph-crossings}
 use Rattle.graph.proofs.Along.{next-there}
 use Rattle.graph.proofs.Alike.{timely-alike, getD-one-way}
 
 -- there is one proof at most, so that the invariant can state it
-pub judged : (vs : List Visit) (cs : List Crossing) (n : ℕ) → ∥ Judges vs cs n ∥₁ → Judges vs cs n
+pub judged : (vs : List Visit) (cs : List Crossing) (n : ℕ) → ∥ All-tested vs cs n ∥₁ → All-tested vs cs n
 judged vs cs n h =
     ∥∥₁-elim h (Π-prop (λ k. Π-prop (λ l. ×-prop (Π-prop (λ e. ×-prop (×-prop (Bool-set _ _) (Bool-set _ _)) (Π-prop (λ w. Π-prop (λ t. ⊥-prop))))) (Π-prop (λ p. Bool-set _ _))))) (λ j. j)
 
@@ -73,7 +74,7 @@ graph-timely d vs cs clear visited crossed =
     timely-alike (plan-crossings vs) cs (plan-one-way vs ∙ sym crossed) vs (subst P (sym visited) (plan-timely d clear))
 
 module _ (g : Graph) where
-  pub graph-judges : Judges (graph-visits g) (graph-crossings g) (length (graph-crossings g))
+  pub graph-judges : All-tested (graph-visits g) (graph-crossings g) (length (graph-crossings g))
   graph-judges = judged (graph-visits g) (graph-crossings g) (length (graph-crossings g)) (g .tested)
 
   pub graph-built : Graph-of (graph-draft g) (graph-visits g) (graph-crossings g)

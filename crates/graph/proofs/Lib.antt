@@ -7,3 +7,4 @@ pub mod Testing
 pub mod Facts
 pub mod Judging
 pub mod Single
+pub mod Arrive

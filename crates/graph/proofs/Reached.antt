@@ -20,7 +20,8 @@ use Rattle.walk.specs.Kinds.{mark, marks}
 use Rattle.walk.specs.Sums.{sum-at}
 use Rattle.walk.proofs.Straight.{trail, straighten, short}
 use Rattle.walk.proofs.Marked.{marked-at, mark-walk, walk-mark}
-use Rattle.graph.specs.Links.{Between, starts-in}
+use Rattle.graph.specs.Links.{Between}
+use Rattle.graph.specs.Inputs.{starts-in}
 use Rattle.graph.proofs.Along.{edge-within}
 
 -- one mark among n visits

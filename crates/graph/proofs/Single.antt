@@ -28,10 +28,10 @@ use Rattle.walk.specs.Edges.{crossing, no-crossing}
 use Rattle.walk.specs.Ways.{Passes}
 use Rattle.visit.specs.Crossings.{plan-crossings}
 use Rattle.graph.specs.declared.graph.Graph.{Graph}
-use Rattle.graph.specs.Graphs.{one-way, Judges, Graph-of}
+use Rattle.graph.specs.Graphs.{one-way, All-tested, Graph-of}
 use Rattle.graph.specs.Verdicts.{graph-draft, graph-visits, graph-crossings, graph-number, Graph-applies, Graph-judged, Graph-is}
 use Rattle.graph.proofs.Alike.{shapes, lengths, candidate-alike, test-alike}
-use Rattle.graph.proofs.Facts.{graph-built}
+use Rattle.graph.proofs.Facts.{graph-built, timely}
 
 -- ---- a plan has one graph
 
@@ -52,7 +52,7 @@ passes-alike vs cs ds alike k before (c, free) =
     (candidate-alike cs ds alike vs k c, λ w h. free w (test-alike ds cs (sym alike) vs k (λ j l. sym (before j l)) w h))
 
 module _ (vs : List Visit) (cs ds : List Crossing) (alike : map one-way cs ≡ map one-way ds)
-    (judged : Judges vs cs (length cs)) (others : Judges vs ds (length ds)) where
+    (judged : All-tested vs cs (length cs)) (others : All-tested vs ds (length ds)) where
   -- so they agree one after another
   same-ways : (n : ℕ) → n ≤ length cs → (k : ℕ) → k < n → Same-way cs ds k
   same-ways zero l k h = absurd (omega arith)
@@ -84,7 +84,7 @@ pub one-graph : (d : Draft) (vs ws : List Visit) (cs ds : List Crossing) →
 one-graph d vs ws cs ds g h =
     let same : ws ≡ vs = h .visits-are ∙ sym (g .visits-are) in
     let alike : map one-way ds ≡ map one-way cs = h .crossings-are ∙ ap plan-crossings same ∙ sym (g .crossings-are) in
-    let P : List Visit → Type 0 = λ xs. Judges xs ds (length ds) in
+    let P : List Visit → Type 0 = λ xs. All-tested xs ds (length ds) in
     (same, same-crossings vs ds cs alike (subst P same (h .two-way-are)) (g .two-way-are))
 
 -- ---- a record has one verdict
@@ -122,4 +122,5 @@ graph-is g =
     record {
       built = graph-built g;
       single = λ vs cs other. one-graph (graph-draft g) (graph-visits g) vs (graph-crossings g) cs (graph-built g) other;
+      leaves = timely g .first-leaves;
     }

@@ -18,7 +18,8 @@ use Rattle.walk.specs.Edges.{Edge, crossing, no-crossing, has-next, is-start}
 use Rattle.walk.specs.Walks.{Graph-walk}
 use Rattle.walk.specs.Ways.{test-ways, Passes, Tested}
 use Rattle.graph.specs.Links.{Between}
-use Rattle.graph.specs.Graphs.{one-way, two-way, Untested, Judges}
+use Rattle.graph.specs.Graphs.{one-way, All-tested}
+use Rattle.graph.specs.Tests.{two-way, Untested}
 use Rattle.graph.proofs.Alike.{ways-walk, firsts, seconds, lengths, candidate-alike, test-alike, tested-alike}
 
 -- the ways of a test while the crossings from k on are one-way
@@ -53,9 +54,9 @@ one-way-set [] k = refl
 one-way-set (x ∷ cs) zero = refl
 one-way-set (x ∷ cs) (suc k) = ap (λ xs. one-way x ∷ xs) (one-way-set cs k)
 
-module _ (vs : List Visit) (cs : List Crossing) (k : ℕ) (there : k < length cs) (untested : Untested cs k) (judged : Judges vs cs k) where
+module _ (vs : List Visit) (cs : List Crossing) (k : ℕ) (there : k < length cs) (untested : Untested cs k) (judged : All-tested vs cs k) where
   -- a crossing that does not pass stays one-way
-  pub stays : (Passes vs cs k → ⊥) → Untested cs (k + 1) × Judges vs cs (k + 1)
+  pub stays : (Passes vs cs k → ⊥) → Untested cs (k + 1) × All-tested vs cs (k + 1)
   stays fails =
       let flag = untested k (omega arith) in (
         λ j l. untested j (omega arith),
@@ -69,7 +70,7 @@ module _ (vs : List Visit) (cs : List Crossing) (k : ℕ) (there : k < length cs
   others j ne = ap (λ x. x .«two_way») (sym (getD-set-other cs k j (two-way (crossing cs k)) no-crossing ne))
 
   -- a crossing that passes becomes two-way
-  pub turns : Passes vs cs k → (map one-way ds ≡ map one-way cs) × Untested ds (k + 1) × Judges vs ds (k + 1)
+  pub turns : Passes vs cs k → (map one-way ds ≡ map one-way cs) × Untested ds (k + 1) × All-tested vs ds (k + 1)
   turns (can, free) =
       let alike = one-way-set cs k in
       let flag : crossing ds k .«two_way» ≡ true = ap (λ x. x .«two_way») (getD-set-same cs k (two-way (crossing cs k)) no-crossing there) in (
@@ -91,7 +92,7 @@ pub record Reaches (vs : List Visit) (all : List Crossing) (n : ℕ) (cs : List 
   pub those : map one-way cs ≡ map one-way all
   pub number : length cs ≡ n
   pub untested : Untested cs k
-  pub judged : Judges vs cs k
+  pub judged : All-tested vs cs k
 
 module _ (vs : List Visit) (all : List Crossing) (n : ℕ) (cs : List Crossing) (k : ℕ) (at : Reaches vs all n cs k) (h : k < n) where
   pub next-turned : (ds : List Crossing) → ds ≡ set cs k (two-way (crossing cs k)) → Passes vs cs k → Reaches vs all n ds (k + 1)

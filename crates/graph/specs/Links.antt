@@ -1,8 +1,8 @@
 -- Edges as the code keeps them: the visits that they lead from and to.
-use mathlib.Core.Bool.{false, cond, _&&_}
+use mathlib.Core.Bool.{cond, _&&_}
 use mathlib.Core.List.{List, [], _∷_, _++_, map}
 use Prim.Native.Nat.{ℕ, _+_, _<_}
-use lib.ListN.{length, getD}
+use lib.ListN.{length}
 use Rattle.walk.specs.declared.visit.Visit.{Visit}
 use Rattle.walk.specs.declared.crossing.Crossing.{Crossing}
 use Rattle.walk.specs.declared.crossing.Ways.{Ways}
@@ -37,14 +37,6 @@ taken-links vs x taken =
 
 abbrev pub crossing-links : List Visit → List Crossing → (ℕ → Ways) → ℕ → List Link
 crossing-links vs cs ways k = taken-links vs (crossing cs k) (ways k)
-
--- which edges of each crossing a list takes
-abbrev pub ways-in : List Ways → ℕ → Ways
-ways-in ws k = getD ws k (record { plan = false; reversed = false })
-
--- the starting value that a list names for each visit
-abbrev pub starts-in : {K : Type 0} → K → List K → ℕ → K
-starts-in blank start v = getD start v blank
 
 -- crossings between n visits, with a visit after each first one
 abbrev pub Between : ℕ → List Crossing → Type 0

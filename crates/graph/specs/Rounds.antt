@@ -12,8 +12,8 @@ use Rattle.graph.specs.declared.links.Link.{Link}
 
 -- what one link brings to visit v
 abbrev pub brings : {K : Type 0} → Operations K → List Visit → List K → ℕ → Link → K
-brings ops vs values v l = cond (eqb (l .to) v) (ops .carry (getD values (l .from) (ops .blank)) (visit vs v)) (ops .blank)
+brings ops vs values v l = cond (eqb (l .to) v) (ops .step (getD values (l .from) (ops .zero)) (visit vs v)) (ops .zero)
 
 -- what starts at v, joined with what every link brings there
 unfoldable pub round-at : {K : Type 0} → Operations K → List Visit → List K → List K → List Link → ℕ → K
-round-at ops vs start values ls v = ops .merge (getD start v (ops .blank)) (total ops (map (brings ops vs values v) ls))
+round-at ops vs start values ls v = ops .join (getD start v (ops .zero)) (total ops (map (brings ops vs values v) ls))

@@ -1,5 +1,6 @@
 -- What loading a record answers.
 use mathlib.Core.Path.{_≡_}
+use mathlib.Core.Bool.{true}
 use mathlib.Core.List.{List}
 use Prim.Native.Nat.{ℕ, _<_}
 use lib.ListN.{length}
@@ -14,6 +15,7 @@ use Rattle.record.specs.Layout.{Draft, draft}
 use Rattle.plan.specs.Conflicts.{Applies}
 use Rattle.walk.specs.declared.visit.Visit.{Visit}
 use Rattle.walk.specs.declared.crossing.Crossing.{Crossing}
+use Rattle.walk.specs.Edges.{crossing, has-next}
 use Rattle.visit.specs.Visits.{plan-visits}
 use Rattle.visit.specs.Crossings.{plan-crossings}
 use Rattle.graph.specs.declared.graph.Graph.{Graph}
@@ -45,11 +47,13 @@ Graph-judged b v = Verdict graph-number (Graph-applies b) (λ d. d ≡ draft b) 
 abbrev pub Graph-only : List ℕ → Result Draft GraphFault → Type 0
 Graph-only b v = (w : Result Draft GraphFault) → Graph-judged b w → w ≡ v
 
--- a graph is that of its plan, and its plan has no other
+-- A graph is that of its plan, and its plan has no other. The first carrier of each crossing goes on from its visit, so that the plan
+-- edge leads from that carrier's next visit.
 pub record Graph-is (g : Graph) : Type 0 where
   pub built : Graph-of (graph-draft g) (graph-visits g) (graph-crossings g)
   pub single :
       (vs : List Visit) (cs : List Crossing) → Graph-of (graph-draft g) vs cs → (vs ≡ graph-visits g) × (cs ≡ graph-crossings g)
+  pub leaves : (k : ℕ) → k < length (graph-crossings g) → has-next (graph-visits g) (crossing (graph-crossings g) k .first) ≡ true
 
 -- what a load tells: what the plan of the graph says that it made, or a fault
 abbrev pub graph-told : Result Unit GraphFault → Graph → Result Draft GraphFault

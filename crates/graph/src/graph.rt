@@ -4,7 +4,7 @@ ghost use lib.ListN.{length};
 ghost use Rattle.fixed.specs.Items.{items};
 ghost use Rattle.visit.specs.Visits.{plan-visits};
 ghost use Rattle.visit.specs.Crossings.{plan-crossings};
-ghost use Rattle.graph.specs.Graphs.{held, one-way, Judges};
+ghost use Rattle.graph.specs.Graphs.{held, one-way, All-tested};
 use fixed::list::Bounded;
 use plan::accepted::Plan;
 use record::MAX_ENTRIES;
@@ -23,7 +23,7 @@ pub struct Graph {
     crossings: Bounded<Crossing, MAX_CROSSINGS>,
     ghost visited: { items visits ≡ plan-visits (held plan) },
     ghost crossed: { map one-way (items crossings) ≡ plan-crossings (items visits) },
-    ghost tested: { ∥ Judges (items visits) (items crossings) (length (items crossings)) ∥₁ },
+    ghost tested: { ∥ All-tested (items visits) (items crossings) (length (items crossings)) ∥₁ },
 }
 
 impl Copy for Graph {}

@@ -9,8 +9,10 @@ ghost use Rattle.fixed.specs.Items.{items};
 ghost use Rattle.walk.specs.Edges.{Edge, crossing, has-next, is-start};
 ghost use Rattle.walk.specs.Walks.{Graph-walk};
 ghost use Rattle.walk.specs.Ways.{Passes};
-ghost use Rattle.graph.specs.Links.{Between, ways-in};
-ghost use Rattle.graph.specs.Graphs.{one-way, two-way, Untested, Judges};
+ghost use Rattle.graph.specs.Links.{Between};
+ghost use Rattle.graph.specs.Inputs.{ways-in};
+ghost use Rattle.graph.specs.Graphs.{one-way, All-tested};
+ghost use Rattle.graph.specs.Tests.{two-way, Untested};
 use crate::links::has_next;
 use crate::sums::sum_along;
 use fixed::list::Bounded;
@@ -32,11 +34,11 @@ pub(crate) fn is_start(visits: &[Visit], visit: usize) -> bool
 
 /// Whether a crossing can be two-way at all: its first visit is no carrier's start, and its second
 /// no carrier's last.
-fn is_candidate(visits: &[Visit], crossing: Crossing) -> bool
-    requires { ⌜ (crossing .first < length (now visits)) × (crossing .second < length (now visits)) ⌝ }
-    ensures { λ r. ⌜ r ≡ (not (is-start (now (visits .entry)) (crossing .first)) && has-next (now (visits .entry)) (crossing .second)) ⌝ }
+fn is_candidate(visits: &[Visit], tested: Crossing) -> bool
+    requires { ⌜ (tested .first < length (now visits)) × (tested .second < length (now visits)) ⌝ }
+    ensures { λ r. ⌜ r ≡ (not (is-start (now (visits .entry)) (tested .first)) && has-next (now (visits .entry)) (tested .second)) ⌝ }
 {
-    !is_start(visits, crossing.first as usize) && has_next(visits, crossing.second as usize)
+    !is_start(visits, tested.first as usize) && has_next(visits, tested.second as usize)
 }
 
 /// The edges of a crossing's test: the plan edges of all other crossings, and the reversed edges of
@@ -106,13 +108,13 @@ fn passes(visits: &[Visit], crossings: &[Crossing], tested: usize) -> bool
 }
 
 /// Makes a crossing two-way.
-fn turn(crossings: &mut Bounded<Crossing, MAX_CROSSINGS>, turned: usize)
-    requires { ⌜ turned < length (items (now crossings)) ⌝ }
-    ensures { λ _. ⌜ items (now (crossings .exit)) ≡ set (items (now (crossings .entry))) turned (two-way (crossing (items (now (crossings .entry))) turned)) ⌝ }
+fn make_two_way(crossings: &mut Bounded<Crossing, MAX_CROSSINGS>, passed: usize)
+    requires { ⌜ passed < length (items (now crossings)) ⌝ }
+    ensures { λ _. ⌜ items (now (crossings .exit)) ≡ set (items (now (crossings .entry))) passed (two-way (crossing (items (now (crossings .entry))) passed)) ⌝ }
 {
-    let crossing = crossings.as_slice()[turned];
+    let crossing = crossings.as_slice()[passed];
     crossings.set(
-        turned,
+        passed,
         Crossing {
             two_way: true,
             ..crossing
@@ -125,12 +127,12 @@ pub(crate) fn test_all(visits: &[Visit], crossings: &mut Bounded<Crossing, MAX_C
     requires there { ⌜ (length (now visits) ≤ 512) × Between (length (now visits)) (items (now crossings)) ⌝ }
     requires untested { ⌜ Untested (items (now crossings)) 0 ⌝ }
     ensures same { λ _. ⌜ map one-way (items (now (crossings .exit))) ≡ map one-way (items (now (crossings .entry))) ⌝ }
-    ensures tested { λ _. ⌜ Judges (now (visits .entry)) (items (now (crossings .exit))) (length (items (now (crossings .exit)))) ⌝ }
+    ensures tested { λ _. ⌜ All-tested (now (visits .entry)) (items (now (crossings .exit))) (length (items (now (crossings .exit)))) ⌝ }
 {
     let count = crossings.as_slice().len();
     for tested in 0..count {
         if passes(visits, crossings.as_slice(), tested) {
-            turn(crossings, tested);
+            make_two_way(crossings, tested);
         }
     }
 }

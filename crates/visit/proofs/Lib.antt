@@ -3,4 +3,4 @@ pub mod Entered
 pub mod Few
 pub mod Ordered
 pub mod Times
-pub mod Started
+pub mod Owned

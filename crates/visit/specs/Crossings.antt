@@ -11,7 +11,7 @@ use Rattle.walk.specs.declared.visit.Visit.{Visit}
 use Rattle.walk.specs.declared.crossing.Crossing.{Crossing}
 use Rattle.walk.specs.Edges.{visit}
 
--- visits u and w are of different carriers in one cell, and u has the earlier step
+-- Visits u and w are of different carriers in one cell, and u has the earlier step. Two such visits at one step would be a clash.
 abbrev pub crosses : List Visit → ℕ → ℕ → Bool
 crosses vs u w =
     not (eqb (visit vs u .carrier) (visit vs w .carrier))

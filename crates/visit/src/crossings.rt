@@ -10,6 +10,7 @@ use fixed::list::methods::Full;
 use record::MAX_ENTRIES;
 use walk::crossing::Crossing;
 use walk::crossing::MAX_CROSSINGS;
+use walk::crossing::NO_CROSSING;
 use walk::visit::Visit;
 
 /// Whether two visits cross, `first` being the earlier in the plan.
@@ -56,12 +57,7 @@ pub fn crossings_of(visits: &Bounded<Visit, MAX_ENTRIES>) -> Result<Bounded<Cros
     ensures { λ r. ⌜ Cases r (λ found. (items found ≡ plan-crossings (items (now (visits .entry)))) × (length (items found) ≤ 1024)) (λ _. 1024 < length (plan-crossings (items (now (visits .entry))))) ⌝ }
 {
     let visits = visits.as_slice();
-    let mut crossings = Bounded::new(Crossing {
-        cell: 0,
-        first: 0,
-        second: 0,
-        two_way: false,
-    });
+    let mut crossings = Bounded::new(NO_CROSSING);
     for first in 0..visits.len() {
         add_crossings(visits, first, &mut crossings)?;
     }

@@ -9,6 +9,7 @@ use fixed::list::Bounded;
 use record::MAX_ENTRIES;
 use record::entry::Entry;
 use record::paths::Paths;
+use walk::visit::NO_VISIT;
 use walk::visit::Visit;
 
 /// Adds a carrier's visits.
@@ -39,11 +40,7 @@ fn add_visits(entries: &[Entry], carrier: u8, visits: &mut Bounded<Visit, MAX_EN
 pub fn visits_of(paths: &Paths) -> Bounded<Visit, MAX_ENTRIES>
     ensures { λ r. ⌜ items r ≡ plan-visits (paths-draft (now (paths .entry))) ⌝ }
 {
-    let mut visits = Bounded::new(Visit {
-        carrier: 0,
-        cell: 0,
-        step: 0,
-    });
+    let mut visits = Bounded::new(NO_VISIT);
     for carrier in 0..paths.header().carriers {
         add_visits(paths.entries(), carrier, &mut visits);
     }

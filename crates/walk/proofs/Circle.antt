@@ -12,7 +12,7 @@ use Rattle.walk.specs.declared.visit.Visit.{Visit}
 use Rattle.walk.specs.declared.crossing.Crossing.{Crossing}
 use Rattle.walk.specs.Edges.{Edge, from, to, is-edge, has-next, visit, crossing}
 use Rattle.walk.specs.Edges.Edge.{path-edge, plan-edge, reversed-edge}
-use Rattle.walk.specs.Walks.{Walk, In, Apart}
+use Rattle.walk.specs.Walks.{Walk, In, Distinct}
 use Rattle.walk.specs.Ways.{Test-walk, Tested, test-ways, Choice, chosen-ways, No-circle}
 use Rattle.walk.proofs.Timely.{Timely}
 use Rattle.walk.proofs.Straight.{join, carry, in-walk, trail, straighten}
@@ -22,7 +22,7 @@ use Rattle.walk.proofs.Straight.{join, carry, in-walk, trail, straighten}
 abbrev pub Chain-free : List Visit → List Crossing → Type 0
 Chain-free vs cs =
     (k : ℕ) → k < length cs → crossing cs k .«two_way» ≡ true → (w : List Edge) → Test-walk vs cs k w →
-    Apart (trail cs (crossing cs k .second + 1) w) → ((j : ℕ) → In (plan-edge j) w → In (reversed-edge j) w → ⊥) → ⊥
+    Distinct (trail cs (crossing cs k .second + 1) w) → ((j : ℕ) → In (plan-edge j) w → In (reversed-edge j) w → ⊥) → ⊥
 
 -- the chosen edges, with only the crossings below b turned
 abbrev Below : List Visit → List Crossing → (ℕ → Bool) → ℕ → Edge → Type 0

@@ -5,3 +5,4 @@ pub mod Straight
 pub mod Circle
 pub mod Listed
 pub mod Marked
+pub mod Carried

@@ -16,7 +16,7 @@ use Rattle.walk.specs.declared.visit.Visit.{Visit}
 use Rattle.walk.specs.declared.crossing.Crossing.{Crossing}
 use Rattle.walk.specs.declared.crossing.Ways.{Ways}
 use Rattle.walk.specs.Edges.{Edge, path-edge, plan-edge, reversed-edge, from, to, is-edge, edges}
-use Rattle.walk.specs.Walks.{Walk, In, Apart, walks, Lists-walks}
+use Rattle.walk.specs.Walks.{Walk, In, Distinct, walks, Lists-walks}
 use Rattle.walk.proofs.Straight.{carry}
 
 -- ---- what stands in a list
@@ -82,36 +82,36 @@ of-counting a (suc n) k (inr h) = omega (arith, of-counting (a + 1) n k h)
 
 -- ---- lists in which no element stands twice
 
-apart-append : {X : Type 0} (xs ys : List X) → Apart xs → Apart ys → ((x : X) → In x xs → In x ys → ⊥) → Apart (xs ++ ys)
-apart-append [] ys p q no-both = q
-apart-append (x ∷ xs) ys p q no-both =
-    (λ h. ⊎-elim (p .0) (no-both x (inl refl)) (of-append x xs ys h), apart-append xs ys (p .1) q (λ y a b. no-both y (inr a) b))
+distinct-append : {X : Type 0} (xs ys : List X) → Distinct xs → Distinct ys → ((x : X) → In x xs → In x ys → ⊥) → Distinct (xs ++ ys)
+distinct-append [] ys p q no-both = q
+distinct-append (x ∷ xs) ys p q no-both =
+    (λ h. ⊎-elim (p .0) (no-both x (inl refl)) (of-append x xs ys h), distinct-append xs ys (p .1) q (λ y a b. no-both y (inr a) b))
 
-apart-map : {X Y : Type 0} (f : X → Y) → ((x y : X) → f x ≡ f y → x ≡ y) → (xs : List X) → Apart xs → Apart (map f xs)
-apart-map f inj [] p = tt
-apart-map f inj (x ∷ xs) p =
+distinct-map : {X Y : Type 0} (f : X → Y) → ((x y : X) → f x ≡ f y → x ≡ y) → (xs : List X) → Distinct xs → Distinct (map f xs)
+distinct-map f inj [] p = tt
+distinct-map f inj (x ∷ xs) p =
     let again = λ (h : In (f x) (map f xs)). of-map f (f x) xs h in
-    (λ h. p .0 (subst (λ y. In y xs) (inj (again h .0) x (again h .1 .1)) (again h .1 .0)), apart-map f inj xs (p .1))
+    (λ h. p .0 (subst (λ y. In y xs) (inj (again h .0) x (again h .1 .1)) (again h .1 .0)), distinct-map f inj xs (p .1))
 
 -- where no two of the lists that are joined have an element in common
-apart-joined :
-    {X Y : Type 0} (f : X → List Y) → ((x : X) → Apart (f x)) → ((x z : X) (y : Y) → In y (f x) → In y (f z) → x ≡ z)
-    → (xs : List X) → Apart xs → Apart (joined f xs)
-apart-joined f each one [] p = tt
-apart-joined f each one (x ∷ xs) p =
-    apart-append (f x) (joined f xs) (each x) (apart-joined f each one xs (p .1))
+distinct-joined :
+    {X Y : Type 0} (f : X → List Y) → ((x : X) → Distinct (f x)) → ((x z : X) (y : Y) → In y (f x) → In y (f z) → x ≡ z)
+    → (xs : List X) → Distinct xs → Distinct (joined f xs)
+distinct-joined f each one [] p = tt
+distinct-joined f each one (x ∷ xs) p =
+    distinct-append (f x) (joined f xs) (each x) (distinct-joined f each one xs (p .1))
     (λ y a b. let j = of-joined f y xs b in p .0 (subst (λ z. In z xs) (sym (one x (j .0) y a (j .1 .1))) (j .1 .0)))
 
-apart-kept : {X : Type 0} (p : X → Bool) (xs : List X) → Apart xs → Apart (kept-by p xs)
-apart-kept p [] a = tt
-apart-kept p (x ∷ xs) a =
-    cond-both (p x) (x ∷ kept-by p xs) (kept-by p xs) Apart
-    (λ _. (λ h. a .0 (of-kept p x xs h .1), apart-kept p xs (a .1)))
-    (λ _. apart-kept p xs (a .1))
+distinct-kept : {X : Type 0} (p : X → Bool) (xs : List X) → Distinct xs → Distinct (kept-by p xs)
+distinct-kept p [] a = tt
+distinct-kept p (x ∷ xs) a =
+    cond-both (p x) (x ∷ kept-by p xs) (kept-by p xs) Distinct
+    (λ _. (λ h. a .0 (of-kept p x xs h .1), distinct-kept p xs (a .1)))
+    (λ _. distinct-kept p xs (a .1))
 
-apart-counting : (a n : ℕ) → Apart (counting a n)
-apart-counting a zero = tt
-apart-counting a (suc n) = (λ h. omega (arith, of-counting (a + 1) n a h), apart-counting (a + 1) n)
+distinct-counting : (a n : ℕ) → Distinct (counting a n)
+distinct-counting a zero = tt
+distinct-counting a (suc n) = (λ h. omega (arith, of-counting (a + 1) n a h), distinct-counting (a + 1) n)
 
 -- ---- walks over any edges
 
@@ -182,16 +182,16 @@ module _ {E : Type 0} (from to : E → ℕ) (es : List E) where
       let y = of-by k v d w b in
       same-last e d (x .1 .0) (y .1 .0) (x .1 .1 .1 ∙ sym (y .1 .1 .1))
 
-  apart-by : (k v : ℕ) (e : E) → Apart (walks from to es k (from e)) → Apart (by k v e)
+  apart-by : (k v : ℕ) (e : E) → Distinct (walks from to es k (from e)) → Distinct (by k v e)
   apart-by k v e before =
-      let all = apart-map (λ r. e ∷ r) (same-rest e) (walks from to es k (from e)) before in
-      cond-both (eqb (to e) v) (by-all k e) [] Apart (λ _. all) (λ _. tt)
+      let all = distinct-map (λ r. e ∷ r) (same-rest e) (walks from to es k (from e)) before in
+      cond-both (eqb (to e) v) (by-all k e) [] Distinct (λ _. all) (λ _. tt)
 
-  pub listed-once : Apart es → (k v : ℕ) → Apart (walks from to es k v)
+  pub listed-once : Distinct es → (k v : ℕ) → Distinct (walks from to es k v)
   listed-once apart zero v = (λ h. h, tt)
   listed-once apart (suc k) v =
-      let each : (e : E) → Apart (by k v e) = λ e. apart-by k v e (listed-once apart k (from e)) in
-      (none-empty k v, apart-joined (by k v) each (one-last k v) es apart)
+      let each : (e : E) → Distinct (by k v e) = λ e. apart-by k v e (listed-once apart k (from e)) in
+      (none-empty k v, distinct-joined (by k v) each (one-last k v) es apart)
 
 -- ---- the edges of the graph
 
@@ -221,7 +221,7 @@ of-both k e (inr (inr h)) = absurd h
 not-same : (k : ℕ) → reversed-edge k ≡ plan-edge k → ⊥
 not-same k same = let z : _≡_ {A = ℕ} 0 1 = cc in omega arith
 
-apart-both : (k : ℕ) → Apart (both k)
+apart-both : (k : ℕ) → Distinct (both k)
 apart-both k = (⊎-elim (not-same k) (λ h. h), (λ h. h, tt))
 
 one-crossing : (j k : ℕ) (e : Edge) → In e (both j) → In e (both k) → j ≡ k
@@ -233,11 +233,11 @@ path-or-crossing n m e a b =
     let cross = of-joined both e (counting 0 m) b in
     both-ways (crosses e) (ap crosses (sym (path .1 .1))) (of-both (cross .0) e (cross .1 .1) .1)
 
-apart-possible : (n m : ℕ) → Apart (possible n m)
+apart-possible : (n m : ℕ) → Distinct (possible n m)
 apart-possible n m =
-    let paths = apart-map path-edge (λ x y. ap number) (counting 0 n) (apart-counting 0 n) in
-    let crossings = apart-joined both apart-both one-crossing (counting 0 m) (apart-counting 0 m) in
-    apart-append (map path-edge (counting 0 n)) (joined both (counting 0 m)) paths crossings (path-or-crossing n m)
+    let paths = distinct-map path-edge (λ x y. ap number) (counting 0 n) (distinct-counting 0 n) in
+    let crossings = distinct-joined both apart-both one-crossing (counting 0 m) (distinct-counting 0 m) in
+    distinct-append (map path-edge (counting 0 n)) (joined both (counting 0 m)) paths crossings (path-or-crossing n m)
 
 path-possible : (n m v : ℕ) → v < n → In (path-edge v) (possible n m)
 path-possible n m v below =
@@ -272,8 +272,8 @@ module _ (vs : List Visit) (cs : List Crossing) (ways : ℕ → Ways) where
   pub edges-in : (e : Edge) → is-edge vs cs ways e ≡ true → In e (edges vs cs ways)
   edges-in e is = in-kept (is-edge vs cs ways) e (possible (length vs) (length cs)) is (is-possible e is)
 
-  pub apart-edges : Apart (edges vs cs ways)
-  apart-edges = apart-kept (is-edge vs cs ways) (possible (length vs) (length cs)) (apart-possible (length vs) (length cs))
+  pub distinct-edges : Distinct (edges vs cs ways)
+  distinct-edges = distinct-kept (is-edge vs cs ways) (possible (length vs) (length cs)) (apart-possible (length vs) (length cs))
 
   pub lists-walks : (k v : ℕ) → Lists-walks vs cs ways k v
   lists-walks k v =
@@ -284,5 +284,5 @@ module _ (vs : List Visit) (cs : List Crossing) (ways : ℕ → Ways) where
         all = λ u w short walk.
             is-listed (from cs) (to cs) (edges vs cs ways) k u v w short
             (carry (from cs) (to cs) Is-edge In-edges edges-in u v w walk);
-        once = listed-once (from cs) (to cs) (edges vs cs ways) apart-edges k v;
+        once = listed-once (from cs) (to cs) (edges vs cs ways) distinct-edges k v;
       }

@@ -9,7 +9,7 @@ use Rattle.std.specs.shelf.Lists.{All}
 use Rattle.std.proofs.shelf.Tests.{cases-eq}
 use Rattle.walk.specs.declared.crossing.Crossing.{Crossing}
 use Rattle.walk.specs.Edges.{Edge, from, to}
-use Rattle.walk.specs.Walks.{Walk, In, Apart}
+use Rattle.walk.specs.Walks.{Walk, In, Distinct}
 
 module _ {E : Type 0} (from to : E → ℕ) where
   -- a walk that goes on with another
@@ -39,11 +39,11 @@ trail cs v (e ∷ w) = v ∷ trail cs (from cs e) w
 module _ (cs : List Crossing) (Is : Edge → Type 0) (u : ℕ) where
   -- a walk to v that passes no visit twice
   abbrev Straight : ℕ → Type 0
-  Straight v = (s : List Edge) × Walk (from cs) (to cs) Is u v s × Apart (trail cs v s)
+  Straight v = (s : List Edge) × Walk (from cs) (to cs) Is u v s × Distinct (trail cs v s)
 
   -- the part of a straight walk up to the visit x, if it passes x
   up-to :
-      (x v : ℕ) (w : List Edge) → Walk (from cs) (to cs) Is u v w → Apart (trail cs v w) → Straight x ⊎ (In x (trail cs v w) → ⊥)
+      (x v : ℕ) (w : List Edge) → Walk (from cs) (to cs) Is u v w → Distinct (trail cs v w) → Straight x ⊎ (In x (trail cs v w) → ⊥)
   up-to x v [] h a = at (cases-eq v x)
     where
       at : (v ≡ x) ⊎ (v ≡ x → ⊥) → Straight x ⊎ (In x (v ∷ []) → ⊥)
@@ -62,7 +62,7 @@ module _ (cs : List Crossing) (Is : Edge → Type 0) (u : ℕ) where
   straight v (e ∷ w) (i, t, h) = let (s, k, a) = straight (from cs e) w h in at s k a (up-to v (from cs e) s k a)
     where
       at :
-          (s : List Edge) → Walk (from cs) (to cs) Is u (from cs e) s → Apart (trail cs (from cs e) s) →
+          (s : List Edge) → Walk (from cs) (to cs) Is u (from cs e) s → Distinct (trail cs (from cs e) s) →
           Straight v ⊎ (In v (trail cs (from cs e) s) → ⊥) → Straight v
       at s k a (inl r) = r
       at s k a (inr n) = (e ∷ s, (i, t, k), (n, a))
@@ -70,7 +70,7 @@ module _ (cs : List Crossing) (Is : Edge → Type 0) (u : ℕ) where
 -- where a walk leads, one leads that passes no visit twice
 pub straighten :
     (cs : List Crossing) (Is : Edge → Type 0) (u v : ℕ) (w : List Edge) → Walk (from cs) (to cs) Is u v w →
-    (s : List Edge) × Walk (from cs) (to cs) Is u v s × Apart (trail cs v s)
+    (s : List Edge) × Walk (from cs) (to cs) Is u v s × Distinct (trail cs v s)
 straighten cs Is u v w h = straight cs Is u v w h
 
 -- numbers up to n, without n
@@ -82,11 +82,11 @@ below n (x ∷ xs) (h, hs) m = (let k : x ≡ n → ⊥ = λ e. m (inl e) in ome
 record Rest (n : ℕ) (xs : List ℕ) : Type 0 where
   rest : List ℕ
   under : All (λ x. x < n) rest
-  apart : Apart rest
+  apart : Distinct rest
   kept : (x : ℕ) → In x rest → In x xs
   one-less : length xs ≤ suc (length rest)
 
-take-out : (n : ℕ) (xs : List ℕ) → All (λ x. x < suc n) xs → Apart xs → Rest n xs
+take-out : (n : ℕ) (xs : List ℕ) → All (λ x. x < suc n) xs → Distinct xs → Rest n xs
 take-out n [] h a = record { rest = []; under = tt; apart = tt; kept = λ x m. m; one-less = omega arith }
 take-out n (x ∷ xs) (h, hs) (m, a) = at (cases-eq x n) (take-out n xs hs a)
   where
@@ -103,7 +103,7 @@ take-out n (x ∷ xs) (h, hs) (m, a) = at (cases-eq x n) (take-out n xs hs a)
         }
 
 -- of the numbers below n there are no more than n
-fit : (n : ℕ) (xs : List ℕ) → All (λ x. x < n) xs → Apart xs → length xs ≤ n
+fit : (n : ℕ) (xs : List ℕ) → All (λ x. x < n) xs → Distinct xs → length xs ≤ n
 fit zero [] h a = omega arith
 fit zero (x ∷ xs) h a = omega arith
 fit (suc n) xs h a = let r = take-out n xs h a in omega (arith, fit n (r .rest) (r .under) (r .apart), r .one-less)
@@ -113,5 +113,5 @@ length-trail cs v [] = refl
 length-trail cs v (e ∷ w) = omega (arith, length-trail cs (from cs e) w)
 
 -- a walk that passes no visit twice has fewer edges than there are visits
-pub short : (cs : List Crossing) (n v : ℕ) (w : List Edge) → All (λ x. x < n) (trail cs v w) → Apart (trail cs v w) → length w < n
+pub short : (cs : List Crossing) (n v : ℕ) (w : List Edge) → All (λ x. x < n) (trail cs v w) → Distinct (trail cs v w) → length w < n
 short cs n v w h a = omega (arith, fit n (trail cs v w) h a, length-trail cs v w)

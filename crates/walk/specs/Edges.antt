@@ -49,7 +49,8 @@ to cs (path-edge v) = v + 1
 to cs (plan-edge k) = crossing cs k .second
 to cs (reversed-edge k) = crossing cs k .first
 
--- whether there is such an edge, where `ways` says which edges of each crossing are taken
+-- Whether there is such an edge, where `ways` says which edges of each crossing are taken. In the graph of a plan the first visit of a
+-- crossing always has a next, so that its plan edge needs no test of that.
 abbrev pub is-edge : List Visit → List Crossing → (ℕ → Ways) → Edge → Bool
 is-edge vs cs ways (path-edge v) = has-next vs v
 is-edge vs cs ways (plan-edge k) = ltb k (length cs) && ways k .plan

@@ -16,7 +16,7 @@ abbrev pub mark : Bool → Mark
 mark b = record { set = b }
 
 abbrev pub marks : Operations Mark
-marks = record { blank = mark false; merge = λ x y. mark (x .set || y .set); carry = λ x v. x }
+marks = record { zero = mark false; join = λ x y. mark (x .set || y .set); step = λ x v. x }
 
 -- earliest steps: none, the larger, and a step adds one up to 65,535
 abbrev pub earliest : Option ℕ → Earliest
@@ -34,9 +34,9 @@ one-more (Some a) = Some (min (a + 1) 65535)
 abbrev pub steps : Operations Earliest
 steps =
     record {
-      blank = earliest None;
-      merge = λ x y. earliest (larger (x .step) (y .step));
-      carry = λ x v. earliest (one-more (x .step));
+      zero = earliest None;
+      join = λ x y. earliest (larger (x .step) (y .step));
+      step = λ x v. earliest (one-more (x .step));
     }
 
 -- on a first visit they start at 0
@@ -56,9 +56,9 @@ with-carrier s c = cond (eqb s 0) 0 (bitOr s (carrier-bit c))
 abbrev pub sets : Operations CarrierSet
 sets =
     record {
-      blank = carrier-set 0;
-      merge = λ x y. carrier-set (bitOr (x .bits) (y .bits));
-      carry = λ x v. carrier-set (with-carrier (x .bits) (v .carrier));
+      zero = carrier-set 0;
+      join = λ x y. carrier-set (bitOr (x .bits) (y .bits));
+      step = λ x v. carrier-set (with-carrier (x .bits) (v .carrier));
     }
 
 -- on a first visit they start with the own carrier

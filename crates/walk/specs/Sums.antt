@@ -11,13 +11,13 @@ use Rattle.walk.specs.Values.{Operations}
 
 -- all of the values joined
 abbrev pub total : {K : Type 0} → Operations K → List K → K
-total ops [] = ops .blank
-total ops (x ∷ xs) = ops .merge x (total ops xs)
+total ops [] = ops .zero
+total ops (x ∷ xs) = ops .join x (total ops xs)
 
 -- What a walk that ends at v brings there: the starting value of its first visit, carried into each visit that it enters.
 abbrev pub brought : {K E : Type 0} → Operations K → List Visit → (E → ℕ) → (ℕ → K) → ℕ → List E → K
 brought ops vs from start v [] = start v
-brought ops vs from start v (e ∷ w) = ops .carry (brought ops vs from start (from e) w) (visit vs v)
+brought ops vs from start v (e ∷ w) = ops .step (brought ops vs from start (from e) w) (visit vs v)
 
 -- the join over all walks of at most k of the edges es that end at v
 unfoldable pub sum-over : {K E : Type 0} → Operations K → List Visit → (E → ℕ) → (E → ℕ) → List E → (ℕ → K) → ℕ → ℕ → K

@@ -23,9 +23,9 @@ In x [] = ⊥
 In x (y ∷ ys) = (y ≡ x) ⊎ In x ys
 
 -- no element stands twice
-abbrev pub Apart : {X : Type 0} → List X → Type 0
-Apart [] = Unit {0}
-Apart (x ∷ xs) = (In x xs → ⊥) × Apart xs
+abbrev pub Distinct : {X : Type 0} → List X → Type 0
+Distinct [] = Unit {0}
+Distinct (x ∷ xs) = (In x xs → ⊥) × Distinct xs
 
 -- the walks of at most k of the edges es that end at v, one after another
 abbrev pub walks : {E : Type 0} → (E → ℕ) → (E → ℕ) → List E → ℕ → ℕ → List (List E)
@@ -44,4 +44,4 @@ graph-walks vs cs ways = walks (from cs) (to cs) (edges vs cs ways)
 pub record Lists-walks (vs : List Visit) (cs : List Crossing) (ways : ℕ → Ways) (k v : ℕ) : Type 0 where
   pub only : (w : List Edge) → In w (graph-walks vs cs ways k v) → (length w ≤ k) × ((u : ℕ) × Graph-walk vs cs ways u v w)
   pub all : (u : ℕ) (w : List Edge) → length w ≤ k → Graph-walk vs cs ways u v w → In w (graph-walks vs cs ways k v)
-  pub once : Apart (graph-walks vs cs ways k v)
+  pub once : Distinct (graph-walks vs cs ways k v)

@@ -11,6 +11,14 @@ pub struct Crossing {
     pub two_way: bool,
 }
 
+/// What stands in a list where there is no crossing.
+pub const NO_CROSSING: Crossing = Crossing {
+    cell: 0,
+    first: 0,
+    second: 0,
+    two_way: false,
+};
+
 /// Which of a crossing's two edges are taken: the plan edge, from the visit after its first to its
 /// second; the reversed edge, from the visit after its second to its first.
 #[derive(Clone, Copy, PartialEq, Eq, Debug)]

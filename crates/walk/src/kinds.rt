@@ -18,14 +18,14 @@ pub trait Kind: Copy {
 
     /// The value that stands for nothing.
     fn zero() -> Self
-        ensures { λ r. ⌜ r ≡ ops .blank ⌝ };
+        ensures { λ r. ⌜ r ≡ ops .zero ⌝ };
 
     fn join(self, other: Self) -> Self
-        ensures { λ r. ⌜ r ≡ ops .merge self other ⌝ };
+        ensures { λ r. ⌜ r ≡ ops .join self other ⌝ };
 
     /// What becomes of the value as it enters a visit.
     fn step(self, visit: Visit) -> Self
-        ensures { λ r. ⌜ r ≡ ops .carry self visit ⌝ };
+        ensures { λ r. ⌜ r ≡ ops .step self visit ⌝ };
 
     fn same(self, other: Self) -> bool
         ensures { λ r. ⌜ Decides r (self ≡ other) ⌝ };

@@ -5,3 +5,10 @@ pub struct Visit {
     pub cell: u16,
     pub step: u16,
 }
+
+/// What stands in a list where there is no visit.
+pub const NO_VISIT: Visit = Visit {
+    carrier: 0,
+    cell: 0,
+    step: 0,
+};

@@ -11,7 +11,7 @@ ghost use Rattle.record.specs.Paths.{paths-draft};
 ghost use Rattle.visit.specs.Visits.{last-visit};
 ghost use Rattle.walk.specs.Edges.{no-visit, is-start};
 ghost use Rattle.walk.specs.Walks.{Lists-walks};
-ghost use Rattle.graph.specs.Links.{ways-in};
+ghost use Rattle.graph.specs.Inputs.{ways-in};
 ghost use Rattle.graph.specs.Verdicts.{graph-draft, graph-visits, graph-crossings};
 ghost use Rattle.graph.specs.Figures.{Summed, starts, plan-ways, plan-sum, earliest-step, relied-on};
 use super::Graph;
@@ -46,7 +46,7 @@ fn last_visit(paths: &Paths, carrier: u8) -> usize
 /// The value that starts on a visit: on each carrier's first visit the kind's own, else zero.
 fn start_at<K: Starting>(visits: &[Visit], visit: usize) -> K
     requires { ⌜ visit < length (now visits) ⌝ }
-    ensures { λ r. ⌜ r ≡ cond (is-start (now (visits .entry)) visit) (starting (getD (now (visits .entry)) visit no-visit)) (K·Kind .ops .blank) ⌝ }
+    ensures { λ r. ⌜ r ≡ cond (is-start (now (visits .entry)) visit) (starting (getD (now (visits .entry)) visit no-visit)) (K·Kind .ops .zero) ⌝ }
 {
     if is_start(visits, visit) {
         K::start(visits[visit])
@@ -58,7 +58,7 @@ fn start_at<K: Starting>(visits: &[Visit], visit: usize) -> K
 /// Starts a value on each carrier's first visit, and zero on the others.
 fn start_all<K: Starting>(visits: &[Visit], start: &mut [K])
     requires { ⌜ length (now start) ≡ length (now visits) ⌝ }
-    ensures { λ _. ⌜ now (start .exit) ≡ starts (K·Kind .ops .blank) starting (now (visits .entry)) ⌝ }
+    ensures { λ _. ⌜ now (start .exit) ≡ starts (K·Kind .ops .zero) starting (now (visits .entry)) ⌝ }
 {
     for visit in 0..visits.len() {
         start[visit] = start_at(visits, visit);

@@ -4,7 +4,8 @@ use lib.ListN.{length}
 use Rattle.fixed.specs.Items.{items}
 use Rattle.fixed.proofs.Counting.{one-more}
 use Rattle.walk.specs.Edges.{crossing}
-use Rattle.graph.specs.Links.{crossing-links, ways-in}
+use Rattle.graph.specs.Links.{crossing-links}
+use Rattle.graph.specs.Inputs.{ways-in}
 use Rattle.graph.proofs.Linked.{taken-links-le, grown}
 use Rattle.graph.proofs.links.add_crossing_links.Needs as need
 

@@ -5,7 +5,8 @@ use lib.ListN.{length}
 use Rattle.std.specs.Iters.{counting}
 use Rattle.std.specs.Joined.{joined}
 use Rattle.fixed.specs.Items.{items}
-use Rattle.graph.specs.Links.{crossing-links, ways-in}
+use Rattle.graph.specs.Links.{crossing-links}
+use Rattle.graph.specs.Inputs.{ways-in}
 use Rattle.graph.proofs.links.add_crossing_links.Given as given
 
 abbrev pub Inv-loop-k : given.InvT-loop-k

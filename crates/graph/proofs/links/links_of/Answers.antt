@@ -4,7 +4,8 @@ use native.Mathlib.Omega.{arith}
 use lib.ListN.{length}
 use Rattle.std.specs.Iters.{counting}
 use Rattle.std.specs.Joined.{joined}
-use Rattle.graph.specs.Links.{crossing-links, ways-in}
+use Rattle.graph.specs.Links.{crossing-links}
+use Rattle.graph.specs.Inputs.{ways-in}
 use Rattle.graph.proofs.Linked.{links-are}
 use Rattle.graph.proofs.links.links_of.Needs as need
 

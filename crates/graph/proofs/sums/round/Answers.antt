@@ -13,7 +13,7 @@ loop-link-holds g c =
     let copied = c .copy-from-slice .ensures .after in
     let ops = g .K·Kind .ops in (
       ap length copied ∙ c .pre .sizes .0,
-      λ v h. ap (λ xs. getD xs v (ops .blank)) copied ∙ round-none ops (g .K·Kind·met .laws) (c .args .visits .now) (c .args .start .now) (c .args .values .now) (c .args .links .now) v,
+      λ v h. ap (λ xs. getD xs v (ops .zero)) copied ∙ round-none ops (g .K·Kind·met .laws) (c .args .visits .now) (c .args .start .now) (c .args .values .now) (c .args .links .now) v,
     )
 
 pub bring-requires : need.bring-requires
@@ -25,7 +25,7 @@ loop-link-again g c =
     let within = link-within _ _ _ (c .loop-link-test .taken) (c .pre .inside) in
     let inside : at .to < length (c .loop-link .next) = omega (arith, c .loop-link .inv .0) in (
       ap length (c .bring .ensures) ∙ length-set _ _ _ ∙ c .loop-link .inv .0,
-      λ v h. ap (λ xs. getD xs v (g .K·Kind .ops .blank)) (c .bring .ensures) ∙ round-set (g .K·Kind .ops) (g .K·Kind·met .laws) (c .args .visits .now) (c .args .start .now) (c .args .values .now) (c .loop-link .next) (c .args .links .now) (c .loop-link .link-index) (c .loop-link-test .taken) inside v (c .loop-link .inv .1 v h),
+      λ v h. ap (λ xs. getD xs v (g .K·Kind .ops .zero)) (c .bring .ensures) ∙ round-set (g .K·Kind .ops) (g .K·Kind·met .laws) (c .args .visits .now) (c .args .start .now) (c .args .values .now) (c .loop-link .next) (c .args .links .now) (c .loop-link .link-index) (c .loop-link-test .taken) inside v (c .loop-link .inv .1 v h),
     )
 
 pub returns : need.returns

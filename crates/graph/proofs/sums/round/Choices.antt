@@ -8,4 +8,4 @@ abbrev pub Inv-loop-link : given.InvT-loop-link
 Inv-loop-link g l =
     let ops = g .K·Kind .ops in
     (length (l .next) ≡ length (l .visits))
-    × ((v : ℕ) → v < length (l .visits) → getD (l .next) v (ops .blank) ≡ round-at ops (l .visits) (l .start) (l .values) (take (l .link-index) (l .links)) v)
+    × ((v : ℕ) → v < length (l .visits) → getD (l .next) v (ops .zero) ≡ round-at ops (l .visits) (l .start) (l .values) (take (l .link-index) (l .links)) v)

@@ -6,5 +6,5 @@ pub returns : need.returns
 returns g c =
     record {
       after = c .copy-from-slice .ensures .after;
-      quiet = λ q. ext-getD (g .K·Kind .ops .blank) _ _ (c .pre) (λ i h. c .loop-i .inv q i (omega arith));
+      quiet = (λ q. ext-getD (g .K·Kind .ops .zero) _ _ (c .pre) (λ i h. c .loop-i .inv .0 q i (omega arith)), c .loop-i .inv .1);
     }

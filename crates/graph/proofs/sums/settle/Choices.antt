@@ -6,5 +6,5 @@ use Rattle.graph.proofs.sums.settle.Given as given
 
 abbrev pub Inv-loop-i : given.InvT-loop-i
 Inv-loop-i g l =
-    let blank = g .K·Kind .ops .blank in
-    l .quiet ≡ true → (k : ℕ) → k < l .i → getD (l .values) k blank ≡ getD (l .next) k blank
+    let zero = g .K·Kind .ops .zero in
+    (l .quiet ≡ true → (k : ℕ) → k < l .i → getD (l .values) k zero ≡ getD (l .next) k zero) × (l .values ≡ l .next → l .quiet ≡ true)

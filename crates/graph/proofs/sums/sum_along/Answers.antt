@@ -7,7 +7,8 @@ use Rattle.std.proofs.shelf.Counted.{fill-by-all}
 use Rattle.walk.specs.Edges.{edges}
 use Rattle.walk.specs.Sums.{sum-over, sum-at}
 use Rattle.graph.specs.declared.links.Link.{Link}
-use Rattle.graph.specs.Links.{Within, link-from, link-to, ways-in, starts-in}
+use Rattle.graph.specs.Links.{Within, link-from, link-to}
+use Rattle.graph.specs.Inputs.{ways-in, starts-in}
 use Rattle.graph.proofs.Along.{links-within, sum-links}
 use Rattle.graph.proofs.sums.sum_along.Needs as need
 
@@ -28,11 +29,11 @@ returns g c =
     let vs = c .args .visits .now in
     let cs = c .args .crossings .now in
     let ways = ways-in (c .args .ways .now) in
-    let start = starts-in (ops .blank) (c .args .start .now) in
+    let start = starts-in (ops .zero) (c .args .start .now) in
     let found = c .as-slice .ensures ∙ c .links-of-links .ensures in
     let size : length (c .sum-over .last .sums) ≡ length vs = omega (arith, c .pre .sizes .1) in
     record {
-      sums = fill-by-all (sum-at ops vs cs ways start) (c .sum-over .last .sums) (length vs) (ops .blank) size (λ v h.
+      sums = fill-by-all (sum-at ops vs cs ways start) (c .sum-over .last .sums) (length vs) (ops .zero) size (λ v h.
           c .sum-over .ensures .sums v h
           ∙ ap (λ ls. sum-over ops vs link-from link-to ls start (length vs) v) found
           ∙ sum-links ops (g .K·Kind·met .laws) vs cs (edges vs cs ways) start (length vs) v);

@@ -21,7 +21,7 @@ loop-round-holds g c =
       ap length copied ∙ c .pre .sizes .0,
       c .pre .sizes .2,
       λ h. absurd (let z : ⊥ = omega arith in z),
-      λ v h. ap (λ xs. getD xs v (ops .blank)) copied ∙ sym (sum-none ops (g .K·Kind·met .laws) (c .args .visits .now) link-from link-to (λ u. getD (c .args .start .now) u (ops .blank)) (c .args .links .now) v),
+      λ v h. ap (λ xs. getD xs v (ops .zero)) copied ∙ sym (sum-none ops (g .K·Kind·met .laws) (c .args .visits .now) link-from link-to (λ u. getD (c .args .start .now) u (ops .zero)) (c .args .links .now) v),
     )
 
 pub loop-round-again : need.loop-round-again
@@ -32,7 +32,7 @@ loop-round-again g c =
       size,
       λ h. sym copied,
       λ v h.
-          ap (λ xs. getD xs v (g .K·Kind .ops .blank)) copied ∙ c .round .ensures v h
+          ap (λ xs. getD xs v (g .K·Kind .ops .zero)) copied ∙ c .round .ensures v h
           ∙ round-sum (g .K·Kind .ops) (g .K·Kind·met .laws) (c .args .visits .now) (c .args .start .now) (c .loop-round .sums) (c .args .links .now) (c .loop-round .-round) (length (c .args .visits .now)) (c .pre .inside) (c .loop-round .inv .3) v,
     )
 
@@ -41,8 +41,8 @@ returns-then-settle g c =
     record {
       twins = sym (c .settle .ensures .after);
       sums = λ v h.
-          ap (λ xs. getD xs v (g .K·Kind .ops .blank)) (c .settle .ensures .after)
-          ∙ sum-settled (g .K·Kind .ops) (g .K·Kind·met .laws) (c .args .visits .now) (c .args .start .now) (c .loop-round .sums) (c .round .last .next) (c .args .links .now) (c .loop-round .-round) (length (c .args .visits .now)) (c .pre .inside) (omega arith) (c .settle .ensures .quiet (c .if-settle .taken)) (c .round .ensures) (c .loop-round .inv .3) v h;
+          ap (λ xs. getD xs v (g .K·Kind .ops .zero)) (c .settle .ensures .after)
+          ∙ sum-settled (g .K·Kind .ops) (g .K·Kind·met .laws) (c .args .visits .now) (c .args .start .now) (c .loop-round .sums) (c .round .last .next) (c .args .links .now) (c .loop-round .-round) (length (c .args .visits .now)) (c .pre .inside) (omega arith) (c .settle .ensures .quiet .0 (c .if-settle .taken)) (c .round .ensures) (c .loop-round .inv .3) v h;
     }
 
 pub returns : need.returns
@@ -50,5 +50,5 @@ returns g c =
     let all : c .loop-round .-round ≡ length (c .args .visits .now) = omega arith in
     record {
       twins = ⊎-elim (c .loop-round .inv .2) (λ none. same-empty (c .loop-round .next) (c .loop-round .sums) (omega (arith, c .loop-round .inv .1)) (omega (arith, c .loop-round .inv .0))) (cases-lt 0 (c .loop-round .-round));
-      sums = λ v h. c .loop-round .inv .3 v h ∙ ap (λ k. sum-over (g .K·Kind .ops) (c .args .visits .now) link-from link-to (c .args .links .now) (λ u. getD (c .args .start .now) u (g .K·Kind .ops .blank)) k v) all;
+      sums = λ v h. c .loop-round .inv .3 v h ∙ ap (λ k. sum-over (g .K·Kind .ops) (c .args .visits .now) link-from link-to (c .args .links .now) (λ u. getD (c .args .start .now) u (g .K·Kind .ops .zero)) k v) all;
     }

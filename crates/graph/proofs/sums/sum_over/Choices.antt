@@ -11,4 +11,4 @@ Inv-loop-round g l =
     (length (l .sums) ≡ length (l .visits))
     × (length (l .next) ≡ length (l .visits))
     × (0 < l .-round → l .next ≡ l .sums)
-    × ((v : ℕ) → v < length (l .visits) → getD (l .sums) v (ops .blank) ≡ sum-over ops (l .visits) link-from link-to (l .links) (λ u. getD (l .start) u (ops .blank)) (l .-round) v)
+    × ((v : ℕ) → v < length (l .visits) → getD (l .sums) v (ops .zero) ≡ sum-over ops (l .visits) link-from link-to (l .links) (λ u. getD (l .start) u (ops .zero)) (l .-round) v)

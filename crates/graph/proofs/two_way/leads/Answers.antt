@@ -15,7 +15,7 @@ use Rattle.walk.specs.Walks.{Graph-walk}
 use Rattle.walk.specs.Kinds.{mark, marks}
 use Rattle.walk.specs.Sums.{sum-at}
 use Rattle.walk.proofs.Marked.{marked-at}
-use Rattle.graph.specs.Links.{ways-in, starts-in}
+use Rattle.graph.specs.Inputs.{ways-in, starts-in}
 use Rattle.graph.proofs.Reached.{one-marked, marks-decide}
 use Rattle.graph.proofs.two_way.leads.Needs as need
 

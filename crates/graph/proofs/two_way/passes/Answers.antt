@@ -1,5 +1,5 @@
 use mathlib.Core.Path.{sym, _∙_}
-use Rattle.graph.specs.Links.{ways-in}
+use Rattle.graph.specs.Inputs.{ways-in}
 use Rattle.graph.proofs.Testing.{test-decides}
 use Rattle.graph.proofs.two_way.passes.Needs as need
 

@@ -11,7 +11,7 @@ use Rattle.fixed.proofs.Held.{items-few}
 use Rattle.walk.specs.declared.crossing.Crossing.{Crossing}
 use Rattle.walk.specs.Ways.{Passes}
 use Rattle.graph.specs.Links.{Between}
-use Rattle.graph.specs.Graphs.{Untested}
+use Rattle.graph.specs.Tests.{Untested}
 use Rattle.graph.proofs.Testing.{between-alike, next-turned, next-stays}
 use Rattle.graph.proofs.two_way.test_all.Needs as need
 use Rattle.graph.proofs.two_way.test_all.Needs.{then-passes, else-passes}
@@ -41,7 +41,7 @@ loop-tested-again c =
     let P : List Crossing → Type 0 = λ xs. Decides (c .passes .result) (Passes vs xs k) in
     let decides = subst P (c .as-slice .ensures) (c .passes .ensures) in
     elim (c .if-passes .came) [
-      then-passes w ↦ next-turned vs all n cs k (c .loop-tested .inv) (c .loop-tested-test .taken) (items (c .if-passes .crossings)) (ap items (w .crossings-is) ∙ w .turn .ensures) (decides .0 (w .if-passes .taken))
+      then-passes w ↦ next-turned vs all n cs k (c .loop-tested .inv) (c .loop-tested-test .taken) (items (c .if-passes .crossings)) (ap items (w .crossings-is) ∙ w .make-two-way .ensures) (decides .0 (w .if-passes .taken))
     | else-passes w ↦ next-stays vs all n cs k (c .loop-tested .inv) (c .loop-tested-test .taken) (items (c .if-passes .crossings)) (ap items (w .crossings-is)) (λ p. both-ways _ (w .if-passes .left) (decides .1 p))
     ]
 

@@ -4,7 +4,7 @@ use mathlib.Core.Bool.{not}
 use lib.Dec.{eqb}
 use lib.ListN.{length}
 use Rattle.walk.specs.Edges.{crossing}
-use Rattle.graph.specs.Links.{ways-in}
+use Rattle.graph.specs.Inputs.{ways-in}
 use Rattle.graph.proofs.two_way.test_ways.Given as given
 
 abbrev pub Inv-loop-j : given.InvT-loop-j

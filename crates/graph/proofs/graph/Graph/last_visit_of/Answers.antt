@@ -6,7 +6,7 @@ use Rattle.record.specs.Paths.{paths-draft}
 use Rattle.record.proofs.Sound.{draft-length}
 use Rattle.plan.specs.Plans.{plan-draft}
 use Rattle.visit.specs.Visits.{plan-visits, last-visit}
-use Rattle.visit.proofs.Started.{last-there}
+use Rattle.visit.proofs.Owned.{last-of}
 use Rattle.graph.specs.Graphs.{held}
 use Rattle.graph.specs.Verdicts.{graph-draft}
 use Rattle.graph.proofs.graph.Graph.last_visit_of.Needs as need
@@ -21,7 +21,7 @@ returns c =
     let known : i < plan-draft p .carriers =
     omega (arith, c .if-carrier-header .left, ap (λ h. h .carriers) (c .header .ensures), ap (λ r. r .header .carriers) paths) in
     let last : c .last-visit .result ≡ last-visit (plan-draft p) i = c .last-visit .ensures ∙ ap (λ r. last-visit (paths-draft r) i) paths in
-    let there = last-there (plan-draft p) (p .paths .sound) (p .paths .header .manned .0) (omega (arith, draft-length (p .paths), p .paths .header .listed)) i known in
+    let there = last-of (plan-draft p) (p .paths .sound) (omega (arith, draft-length (p .paths), p .paths .header .listed)) i known .0 in
     record {
       last = (omega (arith, ap (λ d. d .carriers) draft), last ∙ sym (ap (λ d. last-visit d i) draft));
       there = omega (arith, ap length (g .visited), ap (λ d. length (plan-visits d)) draft);

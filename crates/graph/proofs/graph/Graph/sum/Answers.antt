@@ -10,7 +10,7 @@ use Rattle.std.proofs.shelf.Lists.{length-take-le}
 use Rattle.std.proofs.shelf.Tests.{both-ways}
 use Rattle.walk.proofs.Listed.{lists-walks}
 use Rattle.walk.specs.Sums.{sum-at}
-use Rattle.graph.specs.Links.{ways-in, starts-in}
+use Rattle.graph.specs.Inputs.{ways-in, starts-in}
 use Rattle.graph.specs.Verdicts.{graph-visits, graph-crossings}
 use Rattle.graph.specs.Figures.{sums-of}
 use Rattle.graph.proofs.Facts.{timely, timely-between, graph-ready}
@@ -65,7 +65,7 @@ returns g c =
     let room = long (length (c .visits-visits .result .now)) (length start) (length (c .args .sums .now)) (length (c .args .spare .now)) (λ h. both-ways _ (c .if-is-short .left) (c .is-short .ensures .1 h)) in
     let found : c .sum-along .last .sums ≡ sums-of ops graph ways start =
     c .sum-along .ensures .sums
-    ∙ (λ i. map (sum-at ops (seen i) (crossed i) ways (starts-in (ops .blank) (take (n i) start))) (counting 0 (length (seen i))))
+    ∙ (λ i. map (sum-at ops (seen i) (crossed i) ways (starts-in (ops .zero) (take (n i) start))) (counting 0 (length (seen i))))
     ∙ starts-cut ops (g .K·Kind·met .laws) vs cs ways start (timely-between vs cs (timely graph)) in
     record {
       summed = (

@@ -6,7 +6,7 @@ use Rattle.std.specs.Iters.{counting}
 use Rattle.fixed.proofs.Held.{items-few}
 use Rattle.walk.specs.Edges.{from, to}
 use Rattle.walk.specs.Sums.{sum-over, sum-at}
-use Rattle.graph.specs.Links.{ways-in, starts-in}
+use Rattle.graph.specs.Inputs.{ways-in, starts-in}
 use Rattle.graph.specs.Figures.{starts, plan-ways}
 use Rattle.graph.specs.Verdicts.{graph-visits, graph-crossings}
 use Rattle.graph.proofs.Alike.{edges-same}
@@ -28,10 +28,10 @@ returns g c =
     let vs = graph-visits graph in
     let cs = graph-crossings graph in
     let ways = ways-in (c .plan-ways .result) in
-    let start = starts-in (ops .blank) (starts (ops .blank) (g .K·Starting .starting) vs) in
+    let start = starts-in (ops .zero) (starts (ops .zero) (g .K·Starting .starting) vs) in
     let seen = c .visits-visits .ensures in
     let crossed = c .crossings .ensures in
     let few = items-few (graph .crossings) in
     c .sum-along .ensures .sums
-    ∙ (λ i. map (sum-at ops (seen i) (crossed i) ways (starts-in (ops .blank) ((c .start-all .ensures ∙ ap (starts (ops .blank) (g .K·Starting .starting)) seen) i))) (counting 0 (length (seen i))))
+    ∙ (λ i. map (sum-at ops (seen i) (crossed i) ways (starts-in (ops .zero) ((c .start-all .ensures ∙ ap (starts (ops .zero) (g .K·Starting .starting)) seen) i))) (counting 0 (length (seen i))))
     ∙ ap (λ es. map (sum-over ops vs (from cs) (to cs) es start (length vs)) (counting 0 (length vs))) (edges-same vs cs ways plan-ways (λ k h. c .plan-ways .ensures k (omega arith)))

@@ -10,13 +10,13 @@ use Rattle.graph.proofs.graph.answers.start_all.Needs as need
 
 pub loop-visit-again : need.loop-visit-again
 loop-visit-again g c v h =
-    let blank = g .K·Kind .ops .blank in
+    let blank = g .K·Kind .ops .zero in
     let f = λ (u : ℕ). cond (is-start (c .args .visits .now) u) (g .K·Starting .starting (visit (c .args .visits .now) u)) blank in
     ap (λ x. getD (set (c .loop-visit .start) (c .loop-visit .visit) x) v blank) (c .start-at .ensures)
     ∙ fill-by-more f (c .loop-visit .start) (c .loop-visit .visit) blank (omega (arith, c .pre)) (c .loop-visit .inv) v h
 
 pub returns : need.returns
 returns g c =
-    let blank = g .K·Kind .ops .blank in
+    let blank = g .K·Kind .ops .zero in
     let f = λ (u : ℕ). cond (is-start (c .args .visits .now) u) (g .K·Starting .starting (visit (c .args .visits .now) u)) blank in
     fill-by-all f (c .loop-visit .start) _ blank (omega (arith, c .pre)) (λ v h. c .loop-visit .inv v (omega arith))

@@ -10,7 +10,7 @@ use Rattle.visit.specs.Visits.{plan-visits}
 use Rattle.visit.specs.Crossings.{plan-crossings}
 use Rattle.plan.specs.Plans.{plan-draft}
 use Rattle.graph.specs.Links.{Between}
-use Rattle.graph.specs.Graphs.{one-way, Judges}
+use Rattle.graph.specs.Graphs.{one-way, All-tested}
 use Rattle.graph.proofs.Facts.{plan-one-way, untested, timely-between, graph-timely}
 use Rattle.graph.proofs.graph.loads.build.Needs as need
 
@@ -34,5 +34,5 @@ ghost-result c =
     let found = c .in-Ok .ensures tt .0 in
     let visited : vs ≡ plan-visits (plan-draft (c .args .plan)) = c .visits-of-visits .ensures ∙ ap (λ r. plan-visits (paths-draft r)) (c .paths .ensures) in
     let crossed : map one-way cs ≡ plan-crossings vs = c .test-all .ensures .same ∙ ap (map one-way) found ∙ plan-one-way vs in
-    let P : List Visit → Type 0 = λ xs. Judges xs cs (length cs) in
+    let P : List Visit → Type 0 = λ xs. All-tested xs cs (length cs) in
     (visited, (crossed, (∣ subst P (c .as-slice .ensures) (c .test-all .ensures .tested) ∣₁, tt)))

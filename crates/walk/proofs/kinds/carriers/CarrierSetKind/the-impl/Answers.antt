@@ -9,9 +9,9 @@ laws-law =
     record {
       assoc = λ x y z. ap carrier-set (or-assoc (x .bits) (y .bits) (z .bits));
       comm = λ x y. ap carrier-set (or-comm (x .bits) (y .bits));
-      blank-leaves = λ x. refl;
-      carry-blank = λ v. refl;
-      carry-merge = λ x y v. ap carrier-set (with-union (x .bits) (y .bits) (v .carrier));
+      zero-join = λ x. refl;
+      step-zero = λ v. refl;
+      step-join = λ x y v. ap carrier-set (with-union (x .bits) (y .bits) (v .carrier));
     }
 
 pub idempotent-law : need.idempotent-law
