@@ -33,7 +33,38 @@ const NONE: Crossing = Crossing {
 
 /// The example: carrier 0 goes by cells 3, 4, 5, and carrier 1 by 1, 4, 7 after it.
 const EXAMPLE: [u8; 32] = [
-    3, 0, 3, 0, 2, 0, 8, 0, 0, 0, 0, 1, 1, 1, 1, 1, 3, 0, 4, 0, 5, 0, 1, 0, 1, 0, 1, 0, 4, 0, 7, 0,
+    3,
+    0,
+    3,
+    0,
+    2,
+    0,
+    8,
+    0,
+    0,
+    0,
+    0,
+    1,
+    1,
+    1,
+    1,
+    1,
+    3,
+    0,
+    4,
+    0,
+    5,
+    0,
+    1,
+    0,
+    1,
+    0,
+    1,
+    0,
+    4,
+    0,
+    7,
+    0,
 ];
 
 /// A plan of two carriers that come into one cell in turn, each 32 times, and of two more that
@@ -83,12 +114,12 @@ fn carriers_are_told_of() -> Result<(), Fail> {
     let mut graph = Graph::new();
     check_eq(graph.load(&EXAMPLE), Ok(()))?;
     check_eq(graph.moves(), 4)?;
-    check_eq(graph.visits_of(1), 3)?;
+    check_eq(graph.visit_count(1), 3)?;
     check_eq(graph.earliest(1), Some(4))?;
     check_eq(graph.relies(1), Some(1))?;
     check_eq(graph.earliest(2), None)?;
     check_eq(graph.relies(2), None)?;
-    check_eq(graph.visits_of(2), 0)
+    check_eq(graph.visit_count(2), 0)
 }
 
 #[test]
@@ -118,10 +149,7 @@ fn a_refused_record_leaves_the_graph(rt: LibcRuntime) -> Result<(), Fail> {
     check_eq(graph.load(&[]).is_err(), true)?;
     check_eq(graph.visits().len(), 6)?;
     let crowded = crowd(rt.alloc(), true)?;
-    check_eq(
-        graph.load(crowded.as_slice()),
-        Err(GraphFault::Crossings),
-    )?;
+    check_eq(graph.load(crowded.as_slice()), Err(GraphFault::Crossings))?;
     check_eq(graph.crossings().len(), 1)
 }
 

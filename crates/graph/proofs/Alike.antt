@@ -1,6 +1,6 @@
 -- Graphs that differ in what does not matter to a walk.
 use mathlib.Core.Path.{_≡_, refl, sym, ap, subst, _∙_}
-use mathlib.Core.Bool.{Bool, true, false, cond, not, _&&_}
+use mathlib.Core.Bool.{Bool, cond, not, _&&_}
 use mathlib.Core.List.{List, [], _∷_, _++_, map}
 use mathlib.Core.Logic.{⊎-elim}
 use Prim.Native.Nat.{ℕ, zero, suc, _+_, _≤_, _<_}
@@ -11,13 +11,13 @@ use Rattle.std.specs.Iters.{counting}
 use Rattle.std.specs.Joined.{joined}
 use Rattle.std.specs.shelf.Lists.{kept-by}
 use Rattle.std.proofs.shelf.Lists.{length-map}
-use Rattle.std.proofs.shelf.Tests.{cases-lt, lt-ltb, le-ltb, and-parts, and-from, ltb-true}
+use Rattle.std.proofs.shelf.Tests.{cases-lt, le-ltb}
 use Rattle.walk.specs.declared.visit.Visit.{Visit}
 use Rattle.walk.specs.declared.crossing.Crossing.{Crossing}
 use Rattle.walk.specs.declared.crossing.Ways.{Ways}
-use Rattle.walk.specs.Edges.{Edge, from, to, is-edge, edges, has-next, is-start, crossing, no-crossing}
+use Rattle.walk.specs.Edges.{Edge, from, to, is-edge, edges, has-next, crossing, no-crossing}
 use Rattle.walk.specs.Edges.Edge.{path-edge, plan-edge, reversed-edge}
-use Rattle.walk.specs.Walks.{Walk, Graph-walk}
+use Rattle.walk.specs.Walks.{Graph-walk}
 use Rattle.walk.specs.Ways.{Candidate, test-ways, Test-walk, Tested}
 use Rattle.walk.proofs.Timely.{Timely}
 use Rattle.graph.specs.Graphs.{one-way}

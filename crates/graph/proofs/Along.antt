@@ -1,6 +1,6 @@
 -- Sums over links are sums along the edges that the links are.
 use mathlib.Core.Path.{_≡_, sym, ap, _∙_}
-use mathlib.Core.Bool.{true, cond, _&&_}
+use mathlib.Core.Bool.{true, cond}
 use mathlib.Core.List.{List, [], _∷_, _++_, map}
 use Prim.Native.Nat.{ℕ, zero, suc, _+_, _<_}
 use native.Mathlib.Omega.{arith}
@@ -16,12 +16,11 @@ use Rattle.std.proofs.shelf.Tests.{and-parts, ltb-true}
 use Rattle.walk.specs.declared.visit.Visit.{Visit}
 use Rattle.walk.specs.declared.crossing.Crossing.{Crossing}
 use Rattle.walk.specs.declared.crossing.Ways.{Ways}
-use Rattle.walk.specs.Edges.{Edge, from, to, is-edge, edges, has-next, visit, crossing}
+use Rattle.walk.specs.Edges.{Edge, from, to, is-edge, edges, has-next, visit}
 use Rattle.walk.specs.Edges.Edge.{path-edge, plan-edge, reversed-edge}
 use Rattle.walk.specs.Values.{Operations, Laws}
 use Rattle.walk.specs.Sums.{total, sum-over, sum-at}
 use Rattle.walk.proofs.Sums.{over-edge, sum-none, sum-more, sum-starts}
-use Rattle.graph.specs.declared.links.Link.{Link}
 use Rattle.graph.specs.Links.{link, links, link-from, link-to, Within, Between}
 use Rattle.graph.specs.Inputs.{starts-in}
 
@@ -76,6 +75,6 @@ starts-cut ops laws vs cs ways start between =
     (ops .zero)
     (length-map-counting (sum-at ops vs cs ways (starts-in (ops .zero) (take (length vs) start))) 0 (length vs))
     (λ v h.
-        getD-map-counting (sum-at ops vs cs ways (starts-in (ops .zero) (take (length vs) start))) 0 (length vs) v v (ops .zero) h (omega arith)
-        ∙ sum-starts ops laws vs (from cs) (to cs) (edges vs cs ways) (starts-in (ops .zero) (take (length vs) start)) (starts-in (ops .zero) start) (length vs)
-            (edges-from vs cs ways between) (λ u l. getD-take (length vs) start u (ops .zero) l) (length vs) v h)
+    getD-map-counting (sum-at ops vs cs ways (starts-in (ops .zero) (take (length vs) start))) 0 (length vs) v v (ops .zero) h (omega arith)
+    ∙ sum-starts ops laws vs (from cs) (to cs) (edges vs cs ways) (starts-in (ops .zero) (take (length vs) start)) (starts-in (ops .zero) start) (length vs)
+    (edges-from vs cs ways between) (λ u l. getD-take (length vs) start u (ops .zero) l) (length vs) v h)

@@ -2,12 +2,11 @@
 use mathlib.Core.Path.{_≡_, refl, sym, ap, subst, _∙_}
 use mathlib.Core.Bool.{true, cond}
 use mathlib.Core.List.{List}
-use Prim.Native.Nat.{ℕ, _^_, _≤_, _<_}
+use Prim.Native.Nat.{ℕ, _≤_, _<_}
 use native.Mathlib.Omega.{arith}
 use lib.Bits.{bitOr, or-self, or-comm}
 use lib.Dec.{eqb, ltb}
 use lib.ListN.{length}
-use lib.Pow.{pow-pos}
 use Rattle.std.specs.Options.{isSome}
 use Rattle.std.specs.declared.option.Option.{Option}
 use Rattle.std.specs.declared.option.Option.the-variants.{Some, None}
@@ -131,7 +130,7 @@ module _ (g : Graph) (i : ℕ) (carried : i < graph-draft g .carriers) where
   earliest-known =
       let found = plan-sum steps first-step vs cs last .step in
       let known : Known found =
-          arrives steps (λ x. Known (x .step)) steps-keep first-step vs cs last (graph-last .0) (λ a own. refl) in
+      arrives steps (λ x. Known (x .step)) steps-keep first-step vs cs last (graph-last .0) (λ a own. refl) in
       ap isSome (cond-true (ltb i (graph-draft g .carriers)) found None (lt-ltb _ _ carried)) ∙ known
 
   -- and is in the set at its last visit

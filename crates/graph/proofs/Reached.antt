@@ -1,6 +1,6 @@
 -- Marks decide whether a walk leads from one visit to another.
-use mathlib.Core.Path.{_≡_, refl, sym, ap, subst, _∙_}
-use mathlib.Core.Bool.{Bool, true, false}
+use mathlib.Core.Path.{_≡_, sym, ap, _∙_}
+use mathlib.Core.Bool.{true, false}
 use mathlib.Core.List.{List, [], _∷_}
 use mathlib.Core.Logic.{⊎-elim}
 use Prim.Native.Nat.{ℕ, _≤_, _<_}
@@ -8,13 +8,12 @@ use native.Mathlib.Omega.{arith}
 use lib.ListN.{length, getD, set, take, replicate}
 use Rattle.std.specs.Orderings.{Decides}
 use Rattle.std.specs.shelf.Lists.{All}
-use Rattle.std.proofs.shelf.Lists.{length-set, length-replicate, length-take, getD-take, getD-past, getD-replicate, getD-set-same, getD-set-other}
+use Rattle.std.proofs.shelf.Lists.{length-replicate, length-take, getD-take, getD-past, getD-replicate, getD-set-same, getD-set-other}
 use Rattle.std.proofs.shelf.Tests.{cases-eq, cases-lt, eq-eqb, ne-eqb}
 use Rattle.walk.specs.declared.visit.Visit.{Visit}
 use Rattle.walk.specs.declared.crossing.Crossing.{Crossing}
 use Rattle.walk.specs.declared.crossing.Ways.{Ways}
-use Rattle.walk.specs.declared.kinds.Mark.{Mark}
-use Rattle.walk.specs.Edges.{Edge, from, to, is-edge}
+use Rattle.walk.specs.Edges.{Edge, from, is-edge}
 use Rattle.walk.specs.Walks.{Graph-walk}
 use Rattle.walk.specs.Kinds.{mark, marks}
 use Rattle.walk.specs.Sums.{sum-at}
@@ -32,13 +31,13 @@ one-marked n m u h le = λ i x. at x i
     within x l =
         getD-take n (set (replicate m (mark false)) u (mark true)) x (mark false) l
         ∙ ⊎-elim
-            (λ e. ap (λ y. getD (set (replicate m (mark false)) u (mark true)) y (mark false)) e
-              ∙ getD-set-same (replicate m (mark false)) u (mark true) (mark false) (omega (arith, length-replicate m (mark false)))
-              ∙ ap mark (sym (eq-eqb x u e)))
-            (λ e. getD-set-other (replicate m (mark false)) u x (mark true) (mark false) e
-              ∙ getD-replicate m x (mark false) (mark false) (omega arith)
-              ∙ ap mark (sym (ne-eqb x u e)))
-            (cases-eq x u)
+        (λ e. ap (λ y. getD (set (replicate m (mark false)) u (mark true)) y (mark false)) e
+        ∙ getD-set-same (replicate m (mark false)) u (mark true) (mark false) (omega (arith, length-replicate m (mark false)))
+        ∙ ap mark (sym (eq-eqb x u e)))
+        (λ e. getD-set-other (replicate m (mark false)) u x (mark true) (mark false) e
+        ∙ getD-replicate m x (mark false) (mark false) (omega arith)
+        ∙ ap mark (sym (ne-eqb x u e)))
+        (cases-eq x u)
 
     past : (x : ℕ) → n ≤ x → getD (take n (set (replicate m (mark false)) u (mark true))) x (mark false) ≡ marked-at u x
     past x l =

@@ -51,15 +51,15 @@ module _ {K : Type 0} (ops : Operations K) (laws : Laws ops) (vs : List Visit) (
       let before : ℕ → K = round-at ops vs start values (take i ls) in
       let P : ℕ → Type 0 = λ u. getD next u (ops .zero) ≡ before u → getD (set next to r) u (ops .zero) ≡ round-at ops vs start values (take (i + 1) ls) u in
       let here : P to = λ was.
-          getD-set-same next to r (ops .zero) inside
-          ∙ ap (λ x. ops .join x (carried to)) was
-          ∙ ap (λ b. ops .join (before to) (cond b (carried to) (ops .zero))) (sym (eq-eqb to to refl))
-          ∙ sym (round-more values ls i to h) in
+      getD-set-same next to r (ops .zero) inside
+      ∙ ap (λ x. ops .join x (carried to)) was
+      ∙ ap (λ b. ops .join (before to) (cond b (carried to) (ops .zero))) (sym (eq-eqb to to refl))
+      ∙ sym (round-more values ls i to h) in
       let there : (to ≡ v → ⊥) → P v = λ ne was.
-          getD-set-other next to v r (ops .zero) (λ q. ne (sym q)) ∙ was
-          ∙ sym (join-zero ops laws (before v))
-          ∙ ap (λ b. ops .join (before v) (cond b (carried v) (ops .zero))) (sym (ne-eqb to v ne))
-          ∙ sym (round-more values ls i v h) in
+      getD-set-other next to v r (ops .zero) (λ q. ne (sym q)) ∙ was
+      ∙ sym (join-zero ops laws (before v))
+      ∙ ap (λ b. ops .join (before v) (cond b (carried v) (ops .zero))) (sym (ne-eqb to v ne))
+      ∙ sym (round-more values ls i v h) in
       ⊎-elim (λ q. subst P q here) there (cases-eq to v) old
 
   abbrev sum : List Link → ℕ → ℕ → K
@@ -82,7 +82,7 @@ module _ {K : Type 0} (ops : Operations K) (laws : Laws ops) (vs : List Visit) (
   sum-settled values next ls k n within le quiet round now v h =
       let here : (u : ℕ) → u < n → getD next u (ops .zero) ≡ sum ls k u = λ u l. ap (λ xs. getD xs u (ops .zero)) (sym quiet) ∙ now u l in
       let still : (u : ℕ) → u < n → sum ls (suc k) u ≡ sum ls k u =
-          λ u l. ap (λ m. sum ls m u) (sym (add-one k)) ∙ sym (round-sum values ls k n within now u) ∙ sym (round u l) ∙ here u l in
+      λ u l. ap (λ m. sum ls m u) (sym (add-one k)) ∙ sym (round-sum values ls k n within now u) ∙ sym (round u l) ∙ here u l in
       let e : k + (n - k) ≡ n = omega arith in
       here v h
       ∙ sym (sum-stays ops laws vs link-from link-to (λ u. getD start u (ops .zero)) ls k n (sources n ls within) still (n - k) v h)

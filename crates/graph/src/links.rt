@@ -51,7 +51,12 @@ fn add_path_links(visits: &[Visit], links: &mut Bounded<Link, MAX_LINKS>)
     ensures few { λ _. ⌜ length (items (now (links .exit))) ≤ length (now (visits .entry)) ⌝ }
 {
     for visit in 0..visits.len() {
-        add(links, has_next(visits, visit), visit as u16, visit as u16 + 1);
+        add(
+            links,
+            has_next(visits, visit),
+            visit as u16,
+            visit as u16 + 1,
+        );
     }
 }
 

@@ -1,11 +1,11 @@
 //! The text that floorlist prints.
 ghost use mathlib.Core.Path.{_≡_};
 ghost use mathlib.Core.List.{_++_};
-ghost use lib.ListN.{length};
 ghost use Rattle.std.specs.Iters.{counting};
 ghost use Rattle.std.specs.Joined.{joined};
 ghost use Rattle.std.specs.Of.String.{string-bytes};
 ghost use Rattle.std.specs.Vec.{made};
+ghost use Rattle.record.specs.Layout.{front};
 ghost use Rattle.walk.specs.Edges.{crossing};
 ghost use Rattle.graph.specs.Verdicts.{graph-draft, graph-visits, graph-crossings};
 ghost use Rattle.listing.specs.Texts.{plan-line, carrier-line, way-text, crossing-line, refusal-line, graph-text, Listed};
@@ -31,10 +31,13 @@ fn plan_line(heap: Global, graph: &Graph) -> Result<String, AllocError>
 fn carrier_line(heap: Global, graph: &Graph, carrier: u8) -> Result<String, AllocError>
     ensures { λ r. ⌜ made r (λ s. string-bytes s ≡ carrier-line (graph-draft (now (graph .entry))) (graph-visits (now (graph .entry))) (graph-crossings (now (graph .entry))) carrier) ⌝ }
 {
-    let visits = graph.visits_of(carrier);
+    let visits = graph.visit_count(carrier);
     let earliest = graph.earliest(carrier).unwrap_or(0);
     let relies = graph.relies(carrier).unwrap_or(0);
-    format!(heap, "carrier {carrier} visits {visits} earliest {earliest} relies {relies}\n")
+    format!(
+        heap,
+        "carrier {carrier} visits {visits} earliest {earliest} relies {relies}\n"
+    )
 }
 
 fn way(two_way: bool) -> &'static str
@@ -50,7 +53,10 @@ fn crossing_line(heap: Global, number: usize, crossing: Crossing) -> Result<Stri
     let first = crossing.first;
     let second = crossing.second;
     let way = way(crossing.two_way);
-    format!(heap, "crossing {number} cell {cell} first {first} second {second} {way}\n")
+    format!(
+        heap,
+        "crossing {number} cell {cell} first {first} second {second} {way}\n"
+    )
 }
 
 fn refusal_line(heap: Global, fault: GraphFault) -> Result<String, AllocError>
@@ -85,13 +91,20 @@ fn graph_text(heap: Global, graph: &Graph) -> Result<String, AllocError>
     Ok(text)
 }
 
+/// The record at the front of an input.
+fn record_in(input: &[u8]) -> &[u8]
+    ensures { λ r. ⌜ now r ≡ front (now (input .entry)) ⌝ }
+{
+    let (record, _) = split_record(input);
+    record
+}
+
 /// The text for floorlist's input: a record and what follows it.
 pub fn list(heap: Global, input: &[u8]) -> Result<String, AllocError>
     ensures { λ r. ⌜ made r (λ text. Listed (now (input .entry)) (string-bytes text)) ⌝ }
 {
-    let (record, _) = split_record(input);
     let mut graph = Graph::new();
-    match graph.load(record) {
+    match graph.load(record_in(input)) {
         Ok(()) => graph_text(heap, &graph),
         Err(fault) => refusal_line(heap, fault),
     }

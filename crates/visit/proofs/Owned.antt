@@ -50,10 +50,10 @@ module _ (es : List Entry) where
       let own = all-kept-below (λ a. a .carrier ≡ i) (visit-of i r) (visit-at r) (length r) (λ t h e. refl) in
       let all : n ≡ (i + 1) + (n - (i + 1)) = omega arith in
       ap (λ (a : Visit). a .carrier) (
-        ap (λ m. visit (first-visits es m) at) all
-        ∙ stay (i + 1) (n - (i + 1)) at (omega (arith, first-more es i))
-        ∙ ap (λ vs. visit vs at) (joined-counting (carrier-visits es) i)
-        ∙ getD-append-add (first-visits es i) (carrier-visits es i) k no-visit
+      ap (λ m. visit (first-visits es m) at) all
+      ∙ stay (i + 1) (n - (i + 1)) at (omega (arith, first-more es i))
+      ∙ ap (λ vs. visit vs at) (joined-counting (carrier-visits es) i)
+      ∙ getD-append-add (first-visits es i) (carrier-visits es i) k no-visit
       )
       ∙ all-getD (λ (a : Visit). a .carrier ≡ i) (carrier-visits es i) k no-visit l own
 

@@ -214,7 +214,7 @@ module _ (d : Draft) (free : Conflict-free d) where
         let after : one .step < s = earlier in
         let within : s < length own = made d w hw .within in
         let still : at-step own s ≡ at-step own (s - 1) → getD own (s - 1) 0 ≡ getD own s 0 =
-            λ z. sym (in-path own (s - 1) (omega arith)) ∙ sym z ∙ in-path own s within in
+        λ z. sym (in-path own (s - 1) (omega arith)) ∙ sym z ∙ in-path own s within in
         free Following (record { step = s; first = two .carrier; second = one .carrier }) (
           omega arith,
           made d w hw .manned,
@@ -242,7 +242,7 @@ pub plan-timely : (d : Draft) → Conflict-free d → Timely (plan-visits d) (pl
 plan-timely d free =
     let cs = plan-crossings (vs d) in
     let at : (k : ℕ) → k < length cs → Cross (vs d) (crossing cs k) =
-        λ k h. all-getD (Cross (vs d)) cs k no-crossing h (all-cross (vs d)) in
+    λ k h. all-getD (Cross (vs d)) cs k no-crossing h (all-cross (vs d)) in
     record {
       later = later d;
       second-there = λ k h. at k h .1;

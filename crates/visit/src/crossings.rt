@@ -53,7 +53,9 @@ fn add_crossings(
 }
 
 /// The crossings of some visits, each one-way as yet, unless they are too many.
-pub fn crossings_of(visits: &Bounded<Visit, MAX_ENTRIES>) -> Result<Bounded<Crossing, MAX_CROSSINGS>, Full>
+pub fn crossings_of(
+    visits: &Bounded<Visit, MAX_ENTRIES>,
+) -> Result<Bounded<Crossing, MAX_CROSSINGS>, Full>
     ensures { λ r. ⌜ Cases r (λ found. (items found ≡ plan-crossings (items (now (visits .entry)))) × (length (items found) ≤ 1024)) (λ _. 1024 < length (plan-crossings (items (now (visits .entry))))) ⌝ }
 {
     let visits = visits.as_slice();

@@ -39,7 +39,7 @@ module _ (vs : List Visit) (cs : List Crossing) (ways : ℕ → Ways) where
       goes-on same c =
           let more : suc v ≡ v + 1 = omega arith in
           let on : visit vs (v + 1) .carrier ≡ visit vs v .carrier =
-              ap (λ n. visit vs n .carrier) (sym more) ∙ sym (eqb-true _ _ same) in
+          ap (λ n. visit vs n .carrier) (sym more) ∙ sym (eqb-true _ _ same) in
           record {
             first = c .first;
             way = path-edge v ∷ c .way;

@@ -112,9 +112,9 @@ module _ (vs : List Visit) (cs : List Crossing) (timely : Timely vs cs) (turned 
         let (w, s, apart) = straighten cs Is u v a h in
         test k (t .0) (choice k (t .1)) w (carry (from cs) (to cs) Is _ (known k t) u v w s) apart
         (λ j x y.
-          both-ways (turned j)
-          (in-walk (from cs) (to cs) Is u v w s (plan-edge j) x .1)
-          (in-walk (from cs) (to cs) Is u v w s (reversed-edge j) y .1))
+        both-ways (turned j)
+        (in-walk (from cs) (to cs) Is u v w s (plan-edge j) x .1)
+        (in-walk (from cs) (to cs) Is u v w s (reversed-edge j) y .1))
 
     -- A circle that turns crossing k has a part that the test of k refuses. One that does not is over the crossings below.
     circle : (b v : ℕ) (e : Edge) (w : List Edge) → Walk (from cs) (to cs) (Below vs cs turned b) v v (e ∷ w) → ⊥

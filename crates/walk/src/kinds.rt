@@ -5,8 +5,8 @@ ghost use Rattle.walk.specs.Values.{Operations, Laws, Idempotent};
 use crate::visit::Visit;
 
 pub mod carriers;
-pub mod steps;
 pub mod marks;
+pub mod steps;
 
 /// A kind of value that is carried along walks and joined where they meet.
 pub trait Kind: Copy {

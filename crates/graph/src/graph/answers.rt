@@ -1,19 +1,21 @@
 ghost use mathlib.Core.Path.{_≡_};
-ghost use mathlib.Core.Bool.{cond};
+ghost use mathlib.Core.Bool.{true, false, cond};
 ghost use mathlib.Core.List.{map};
 ghost use mathlib.Core.Logic.{_⊎_};
-ghost use Prim.Native.Nat.{ℕ, _<_, _≤_};
+ghost use Prim.Native.Nat.{ℕ, _-_, _<_, _≤_};
+ghost use lib.Count.{ones};
 ghost use lib.ListN.{length, getD};
 ghost use Rattle.std.specs.Iters.{counting};
 ghost use Rattle.std.specs.Options.{Cases};
 ghost use Rattle.std.specs.Orderings.{Decides};
 ghost use Rattle.record.specs.Paths.{paths-draft};
 ghost use Rattle.visit.specs.Visits.{last-visit};
+ghost use Rattle.walk.specs.declared.crossing.Ways.{Ways};
 ghost use Rattle.walk.specs.Edges.{no-visit, is-start};
 ghost use Rattle.walk.specs.Walks.{Lists-walks};
 ghost use Rattle.graph.specs.Inputs.{ways-in};
 ghost use Rattle.graph.specs.Verdicts.{graph-draft, graph-visits, graph-crossings};
-ghost use Rattle.graph.specs.Figures.{Summed, starts, plan-ways, plan-sum, earliest-step, relied-on};
+ghost use Rattle.graph.specs.Figures.{Summed, sums-of, starts, plan-ways, plan-sum, earliest-step, relied-on, Arrives};
 use super::Graph;
 use crate::sums::sum_along;
 use crate::two_way::is_start;
@@ -65,14 +67,21 @@ fn start_all<K: Starting>(visits: &[Visit], start: &mut [K])
     }
 }
 
+/// A crossing's plan edge, and not its reversed one.
+fn plan_way() -> Ways
+    ensures { λ r. ⌜ r ≡ record { plan = true; reversed = false } ⌝ }
+{
+    Ways {
+        plan: true,
+        reversed: false,
+    }
+}
+
 /// All plan edges, and no reversed one.
 fn plan_ways() -> [Ways; MAX_CROSSINGS]
     ensures { λ r. ⌜ ((k : ℕ) → k < 1024 → ways-in r k ≡ plan-ways k) ⌝ }
 {
-    [Ways {
-        plan: true,
-        reversed: false,
-    }; MAX_CROSSINGS]
+    [plan_way(); MAX_CROSSINGS]
 }
 
 /// At each visit the sum over path and plan edges of what starts on each carrier's first visit;
@@ -84,6 +93,13 @@ fn plan_sums<K: Starting>(graph: &Graph, start: &mut [K], sums: &mut [K], spare:
     let visits = graph.visits();
     start_all(visits, start);
     sum_along(visits, graph.crossings(), &plan_ways(), start, sums, spare);
+}
+
+/// How many carriers are in a set beside the one that it is for.
+fn others(set: CarrierSet) -> u32
+    ensures { λ r. ⌜ r ≡ ones (set .bits) - 1 ⌝ }
+{
+    set.bits.count_ones().saturating_sub(1)
 }
 
 /// Whether one of three lengths is below the length needed.
@@ -106,8 +122,8 @@ impl Graph {
         sums: &mut [K],
         spare: &mut [K],
     ) -> Result<(), RoomFault>
-        ensures summed { λ r. ⌜ Summed ops (now (self .entry)) (ways-in (now (ways .entry))) (now (start .entry)) (now (sums .entry)) (now (spare .entry)) (now (sums .exit)) (now (spare .exit)) r ⌝ }
-        ensures walks { λ _. ⌜ ((k v : ℕ) → Lists-walks (graph-visits (now (self .entry))) (graph-crossings (now (self .entry))) (ways-in (now (ways .entry))) k v) ⌝ }
+        ensures summed { λ r. ⌜ Summed (length (graph-visits (now (self .entry)))) (sums-of ops (graph-visits (now (self .entry))) (graph-crossings (now (self .entry))) (ways-in (now (ways .entry))) (now (start .entry))) (now (start .entry)) (now (sums .entry)) (now (sums .exit)) (now (spare .entry)) (now (spare .exit)) r ⌝ }
+        ensures walks { λ _. ⌜ ((taken : ℕ → Ways) (k v : ℕ) → Lists-walks (graph-visits (now (self .entry))) (graph-crossings (now (self .entry))) taken k v) ⌝ }
     {
         let visits = self.visits();
         let count = visits.len();
@@ -130,7 +146,8 @@ impl Graph {
     /// The earliest step at which a carrier can come to its last visit, over path and plan edges;
     /// none for a carrier that the plan lacks.
     pub fn earliest(&self, carrier: u8) -> Option<u16>
-        ensures { λ r. ⌜ r ≡ earliest-step (graph-draft (now (self .entry))) (graph-visits (now (self .entry))) (graph-crossings (now (self .entry))) carrier ⌝ }
+        ensures answer { λ r. ⌜ r ≡ earliest-step (graph-draft (now (self .entry))) (graph-visits (now (self .entry))) (graph-crossings (now (self .entry))) carrier ⌝ }
+        ensures arrives { λ _. ⌜ (carrier < graph-draft (now (self .entry)) .carriers → Arrives (graph-draft (now (self .entry))) (graph-visits (now (self .entry))) (graph-crossings (now (self .entry))) carrier) ⌝ }
     {
         let last = self.last_visit_of(carrier)?;
         let count = self.visits().len();
@@ -149,7 +166,8 @@ impl Graph {
     /// How many other carriers a carrier relies on to come to its last visit; none for a carrier
     /// that the plan lacks.
     pub fn relies(&self, carrier: u8) -> Option<u32>
-        ensures { λ r. ⌜ r ≡ relied-on (graph-draft (now (self .entry))) (graph-visits (now (self .entry))) (graph-crossings (now (self .entry))) carrier ⌝ }
+        ensures answer { λ r. ⌜ r ≡ relied-on (graph-draft (now (self .entry))) (graph-visits (now (self .entry))) (graph-crossings (now (self .entry))) carrier ⌝ }
+        ensures arrives { λ _. ⌜ (carrier < graph-draft (now (self .entry)) .carriers → Arrives (graph-draft (now (self .entry))) (graph-visits (now (self .entry))) (graph-crossings (now (self .entry))) carrier) ⌝ }
     {
         let last = self.last_visit_of(carrier)?;
         let count = self.visits().len();
@@ -162,7 +180,7 @@ impl Graph {
             &mut sums[0..count],
             &mut spare[0..count],
         );
-        Some(sums[last].bits.count_ones().saturating_sub(1))
+        Some(others(sums[last]))
     }
 
     /// The number of a carrier's last visit, if the plan has the carrier.

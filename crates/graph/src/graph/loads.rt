@@ -20,8 +20,8 @@ use fixed::list::Bounded;
 use plan::accepted::Plan;
 use visit::crossings::crossings_of;
 use visit::visits::visits_of;
-use walk::crossing::Crossing;
-use walk::visit::Visit;
+use walk::crossing::NO_CROSSING;
+use walk::visit::NO_VISIT;
 
 /// The graph of a plan, unless it has too many crossings.
 fn build(plan: Plan) -> Result<Graph, GraphFault>
@@ -46,6 +46,15 @@ fn read_graph(bytes: &[u8]) -> Result<Graph, GraphFault>
     build(Plan::read(bytes)?)
 }
 
+/// Puts a graph that was made in the place of another, or leaves that as it was.
+fn take_over(graph: &mut Graph, made: Result<Graph, GraphFault>) -> Result<(), GraphFault>
+    ensures told { λ r. ⌜ graph-told r (now (graph .exit)) ≡ made-told made ⌝ }
+    ensures kept { λ r. ⌜ refused r (λ _. now (graph .exit) ≡ now (graph .entry)) ⌝ }
+{
+    *graph = made?;
+    Ok(())
+}
+
 impl Graph {
     /// The graph of no plan: it has no carriers.
     pub fn new() -> Graph
@@ -55,17 +64,8 @@ impl Graph {
     {
         Graph {
             plan: None,
-            visits: Bounded::new(Visit {
-                carrier: 0,
-                cell: 0,
-                step: 0,
-            }),
-            crossings: Bounded::new(Crossing {
-                cell: 0,
-                first: 0,
-                second: 0,
-                two_way: false,
-            }),
+            visits: Bounded::new(NO_VISIT),
+            crossings: Bounded::new(NO_CROSSING),
         }
     }
 
@@ -78,8 +78,6 @@ impl Graph {
         ensures built { λ _. ⌜ Graph-is (now (self .exit)) ⌝ }
         ensures acyclic { λ _. ⌜ No-circle (graph-visits (now (self .exit))) (graph-crossings (now (self .exit))) ⌝ }
     {
-        let graph = read_graph(bytes)?;
-        *self = graph;
-        Ok(())
+        take_over(self, read_graph(bytes))
     }
 }

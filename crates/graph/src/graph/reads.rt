@@ -1,11 +1,9 @@
 ghost use mathlib.Core.Path.{_≡_};
-ghost use mathlib.Core.List.{_++_};
-ghost use Prim.Native.Nat.{_-_, _<_, _≤_};
-ghost use lib.ListN.{length, drop};
-ghost use Rattle.std.specs.Results.{Cases};
+ghost use Prim.Native.Nat.{_-_};
+ghost use lib.ListN.{length};
 ghost use Rattle.record.specs.Steps.{visits};
 ghost use Rattle.graph.specs.Verdicts.{graph-draft, graph-visits, graph-crossings};
-ghost use Rattle.graph.specs.Figures.{outline-of};
+ghost use Rattle.graph.specs.Figures.{outline-of, Crossings-listed};
 use super::Graph;
 use fault::kinds::RoomFault;
 use walk::crossing::Crossing;
@@ -62,11 +60,13 @@ impl Graph {
     pub fn moves(&self) -> usize
         ensures { λ r. ⌜ r ≡ length (graph-visits (now (self .entry))) - graph-draft (now (self .entry)) .carriers ⌝ }
     {
-        self.visits().len().saturating_sub(usize::from(self.outline().carriers))
+        self.visits()
+            .len()
+            .saturating_sub(usize::from(self.outline().carriers))
     }
 
     /// How many visits a carrier makes, 0 for a carrier that the plan lacks.
-    pub fn visits_of(&self, carrier: u8) -> u16
+    pub fn visit_count(&self, carrier: u8) -> u16
         ensures { λ r. ⌜ r ≡ visits (graph-draft (now (self .entry))) carrier ⌝ }
     {
         match &self.plan {
@@ -78,7 +78,7 @@ impl Graph {
     /// Writes the crossings to the front of a list and answers how many they are. A list that is too
     /// short is left as it was.
     pub fn list_crossings(&self, list: &mut [Crossing]) -> Result<usize, RoomFault>
-        ensures { λ r. ⌜ Cases r (λ n. (n ≡ length (graph-crossings (now (self .entry)))) × (n ≤ length (now (list .entry))) × (now (list .exit) ≡ graph-crossings (now (self .entry)) ++ drop n (now (list .entry)))) (λ f. (f .needed ≡ length (graph-crossings (now (self .entry)))) × (length (now (list .entry)) < f .needed) × (now (list .exit) ≡ now (list .entry))) ⌝ }
+        ensures { λ r. ⌜ Crossings-listed (graph-crossings (now (self .entry))) (now (list .entry)) (now (list .exit)) r ⌝ }
     {
         let crossings = self.crossings.as_slice();
         let count = crossings.len();

@@ -1,21 +1,16 @@
 use native.Mathlib.Omega.{arith}
-use mathlib.Core.Path.{_≡_, sym, ap, _∙_}
+use mathlib.Core.Path.{_≡_, ap, _∙_}
 use mathlib.Core.Bool.{cond}
 use mathlib.Core.List.{_++_}
-use Prim.Native.Nat.{ℕ}
 use lib.ListN.{length}
 use Rattle.std.specs.Iters.{counting}
 use Rattle.std.specs.Joined.{joined}
 use Rattle.std.specs.Of.String.{string-bytes}
 use Rattle.std.specs.Results.{isOk}
-use Rattle.std.proofs.shelf.Lists.{append-nil}
 use Rattle.fixed.proofs.Counting.{one-more}
 use Rattle.walk.specs.Edges.{crossing}
 use Rattle.listing.specs.Texts.{crossing-line}
 use Rattle.listing.proofs.graph_text.Needs as need
-
-pub loop-number-holds : need.loop-number-holds
-loop-number-holds c = sym (append-nil (string-bytes (c .in-Continue-text .text)))
 
 pub loop-number-again : need.loop-number-again
 loop-number-again c =

@@ -1,5 +1,4 @@
-use mathlib.Core.Path.{_≡_, refl, sym, ap, subst, _∙_}
-use mathlib.Core.Bool.{false}
+use mathlib.Core.Path.{sym, ap, subst, _∙_}
 use mathlib.Core.List.{List}
 use Prim.Native.Nat.{_≤_, _<_}
 use native.Mathlib.Omega.{arith}
@@ -41,8 +40,8 @@ loop-tested-again c =
     let P : List Crossing → Type 0 = λ xs. Decides (c .passes .result) (Passes vs xs k) in
     let decides = subst P (c .as-slice .ensures) (c .passes .ensures) in
     elim (c .if-passes .came) [
-      then-passes w ↦ next-turned vs all n cs k (c .loop-tested .inv) (c .loop-tested-test .taken) (items (c .if-passes .crossings)) (ap items (w .crossings-is) ∙ w .make-two-way .ensures) (decides .0 (w .if-passes .taken))
-    | else-passes w ↦ next-stays vs all n cs k (c .loop-tested .inv) (c .loop-tested-test .taken) (items (c .if-passes .crossings)) (ap items (w .crossings-is)) (λ p. both-ways _ (w .if-passes .left) (decides .1 p))
+      | then-passes w ↦ next-turned vs all n cs k (c .loop-tested .inv) (c .loop-tested-test .taken) (items (c .if-passes .crossings)) (ap items (w .crossings-is) ∙ w .make-two-way .ensures) (decides .0 (w .if-passes .taken))
+      | else-passes w ↦ next-stays vs all n cs k (c .loop-tested .inv) (c .loop-tested-test .taken) (items (c .if-passes .crossings)) (ap items (w .crossings-is)) (λ p. both-ways _ (w .if-passes .left) (decides .1 p))
     ]
 
 pub returns : need.returns

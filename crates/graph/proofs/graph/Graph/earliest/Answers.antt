@@ -12,6 +12,7 @@ use Rattle.walk.specs.Kinds.{earliest, steps, first-step}
 use Rattle.visit.specs.Visits.{last-visit}
 use Rattle.graph.specs.Verdicts.{graph-draft, graph-visits, graph-crossings}
 use Rattle.graph.specs.Figures.{plan-sum}
+use Rattle.graph.proofs.Arrive.{graph-arrives}
 use Rattle.graph.proofs.graph.Graph.earliest.Needs as need
 
 pub returns : need.returns
@@ -25,5 +26,9 @@ returns c =
     let within : v < length (c .plan-sums .last .sums) = let k = c .plan-sums .kept .sums in let s = ap length (c .visits-count .ensures) in search needs in
     let at : getD (c .plan-sums .last .sums) v (earliest None) ≡ f v =
     ap (λ xs. getD xs v (earliest None)) (c .plan-sums .ensures) ∙ getD-map-counting f 0 (length (graph-visits g)) v v (earliest None) there (omega arith) in
-    ap (λ x. x .step) (getD-append-left _ _ _ v within ∙ at ∙ ap f is)
-    ∙ ap (λ b. cond b (f (last-visit (graph-draft g) i) .step) None) (sym (lt-ltb _ _ known))
+    record {
+      answer =
+          ap (λ x. x .step) (getD-append-left _ _ _ v within ∙ at ∙ ap f is)
+          ∙ ap (λ b. cond b (f (last-visit (graph-draft g) i) .step) None) (sym (lt-ltb _ _ known));
+      arrives = graph-arrives g i;
+    }

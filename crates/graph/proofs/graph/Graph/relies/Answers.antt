@@ -14,6 +14,7 @@ use Rattle.walk.specs.Kinds.{carrier-set, sets, own-carrier}
 use Rattle.visit.specs.Visits.{last-visit}
 use Rattle.graph.specs.Verdicts.{graph-draft, graph-visits, graph-crossings}
 use Rattle.graph.specs.Figures.{plan-sum}
+use Rattle.graph.proofs.Arrive.{graph-arrives}
 use Rattle.graph.proofs.graph.Graph.relies.Needs as need
 
 pub returns : need.returns
@@ -29,5 +30,9 @@ returns c =
     ap (λ xs. getD xs v (carrier-set 0)) (c .plan-sums .ensures) ∙ getD-map-counting f 0 (length (graph-visits g)) v v (carrier-set 0) there (omega arith) in
     let set = getD-append-left _ _ _ v within ∙ at ∙ ap f is in
     let Figure : ℕ → Option ℕ = λ n. Some n in
-    ap Figure (c .saturating-sub .ensures ∙ ap (λ s. ones (s .bits) - 1) set)
-    ∙ ap (λ b. cond b (Figure (ones (f (last-visit (graph-draft g) i) .bits) - 1)) None) (sym (lt-ltb _ _ known))
+    record {
+      answer =
+          ap Figure (c .others .ensures ∙ ap (λ s. ones (s .bits) - 1) set)
+          ∙ ap (λ b. cond b (Figure (ones (f (last-visit (graph-draft g) i) .bits) - 1)) None) (sym (lt-ltb _ _ known));
+      arrives = graph-arrives g i;
+    }

@@ -1,11 +1,12 @@
 use native.Mathlib.Omega.{arith}
 use native.Mathlib.Nat.{sub-zero}
-use mathlib.Core.Path.{_≡_, refl, ap, _∙_}
+use mathlib.Core.Path.{_≡_, refl, sym, ap, subst, _∙_}
 use mathlib.Core.List.{_++_, map}
 use mathlib.Core.Logic.{_⊎_, inl, inr}
 use Prim.Native.Nat.{ℕ, _-_, _≤_, _<_}
 use lib.ListN.{length, take, drop}
 use Rattle.std.specs.Iters.{counting}
+use Rattle.std.proofs.shelf.Counted.{length-map-counting}
 use Rattle.std.proofs.shelf.Lists.{length-take-le}
 use Rattle.std.proofs.shelf.Tests.{both-ways}
 use Rattle.walk.proofs.Listed.{lists-walks}
@@ -30,9 +31,12 @@ long needed start sums spare fails = (
 
 pub returns-then-is-short : need.returns-then-is-short
 returns-then-is-short g c =
+    let seen = ap length (c .visits-visits .ensures) in
+    let Short : ℕ → Type 0 = λ n.
+    (length (c .args .start .now) < n) ⊎ ((length (c .args .sums .now) < n) ⊎ (length (c .args .spare .now) < n)) in
     record {
-      summed = (ap length (c .visits-visits .ensures), c .is-short .ensures .0 (c .if-is-short .taken), refl, refl);
-      walks = lists-walks (graph-visits (c .args .self .now)) (graph-crossings (c .args .self .now)) (ways-in (c .args .ways .now));
+      summed = (seen, subst Short seen (c .is-short .ensures .0 (c .if-is-short .taken)), refl, refl);
+      walks = lists-walks (graph-visits (c .args .self .now)) (graph-crossings (c .args .self .now));
     }
 
 pub sum-along-requires : need.sum-along-requires
@@ -63,15 +67,17 @@ returns g c =
     let crossed = c .crossings .ensures in
     let n : length (c .visits-visits .result .now) - 0 ≡ length vs = sub-zero _ ∙ ap length seen in
     let room = long (length (c .visits-visits .result .now)) (length start) (length (c .args .sums .now)) (length (c .args .spare .now)) (λ h. both-ways _ (c .if-is-short .left) (c .is-short .ensures .1 h)) in
-    let found : c .sum-along .last .sums ≡ sums-of ops graph ways start =
+    let found : c .sum-along .last .sums ≡ sums-of ops vs cs ways start =
     c .sum-along .ensures .sums
     ∙ (λ i. map (sum-at ops (seen i) (crossed i) ways (starts-in (ops .zero) (take (n i) start))) (counting 0 (length (seen i))))
     ∙ starts-cut ops (g .K·Kind·met .laws) vs cs ways start (timely-between vs cs (timely graph)) in
+    let all : length (sums-of ops vs cs ways start) ≡ length vs = length-map-counting (sum-at ops vs cs ways (starts-in (ops .zero) start)) 0 (length vs) in
+    let past = n ∙ sym all in
     record {
       summed = (
         omega (arith, room .0, ap length seen),
-        (λ i. found i ++ drop (n i) (c .args .sums .now)),
-        (λ i. (c .sum-along .ensures .spare ∙ found) i ++ drop (n i) (c .args .spare .now)),
+        (omega (arith, all, room .1, ap length seen), λ i. found i ++ drop (past i) (c .args .sums .now)),
+        (omega (arith, all, room .2, ap length seen), λ i. (c .sum-along .ensures .spare ∙ found) i ++ drop (past i) (c .args .spare .now)),
       );
-      walks = lists-walks vs cs ways;
+      walks = lists-walks vs cs;
     }
