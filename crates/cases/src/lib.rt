@@ -1,4 +1,6 @@
 //! Records and graphs by example.
+#![tactic(auto)]
+
 #[cfg(test)]
 mod graphs;
 #[cfg(test)]

@@ -1,5 +1,5 @@
 -- How many items a list of bounded length holds.
-use Rattle.std.proofs.Common.{◌≡◌, ℕ, ◌≤◌, List, length, sym, ap, ◌∙◌, subst, arith}
+use Rattle.std.proofs.Common.{◌≡◌, ℕ, ◌≤◌, List, length, ap, subst, arith}
 use denote.Struct.Props.{props}
 use Rattle.std.proofs.lemmas.List.{length-take-le}
 use Rattle.fixed.specs.declared.list.Bounded.{Bounded}

@@ -1,2 +1,4 @@
 //! Lists in fixed memory.
+#![tactic(auto)]
+
 pub mod list;

@@ -1,5 +1,7 @@
 ghost use Rattle.std.specs.Prelude.{◌≡◌, ◌≤◌, length};
 
+use std::alloc::AllocError;
+
 pub mod methods;
 
 /// A list of at most `N` items, in fixed memory.
@@ -11,3 +13,13 @@ pub struct Bounded<T, const N: usize> {
 }
 
 impl<T: Copy, const N: usize> Copy for Bounded<T, N> {}
+
+impl<T: Copy, const N: usize> Clone for Bounded<T, N> {
+    ghost is_clone = { λ list copy. copy ≡ list };
+
+    ghost is_infallible = { λ _. Unit {0} };
+
+    fn clone(&self) -> Result<Bounded<T, N>, AllocError> {
+        Ok(*self)
+    }
+}

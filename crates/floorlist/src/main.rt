@@ -1,4 +1,6 @@
 //! Reads a plan record and call bytes from standard input, and lists the plan or its fault.
+#![tactic(auto)]
+
 use listing::list;
 use record::MAX_ENTRIES;
 use record::layout::{ENTRY_LEN, HEADER_LEN};

@@ -1,4 +1,6 @@
 //! The temporal plan graph of a plan.
+#![tactic(auto)]
+
 pub mod graph;
 mod links;
 mod sums;

@@ -1,4 +1,6 @@
 //! The text that floorlist prints.
+#![tactic(auto)]
+
 ghost use Rattle.std.specs.Prelude.{◌≡◌, ◌++◌, IfOk, string_bytes};
 ghost use Rattle.std.specs.List.{range_with_len, flat_map};
 ghost use Rattle.record.specs.Layout.{front};

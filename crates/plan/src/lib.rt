@@ -1,3 +1,5 @@
 //! Plans whose carriers are never in conflict.
+#![tactic(auto)]
+
 pub mod accepted;
 mod conflicts;

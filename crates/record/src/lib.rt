@@ -1,4 +1,6 @@
 //! Plan records: bytes read into the carriers' paths, or refused.
+#![tactic(auto)]
+
 pub mod entry;
 mod flaws;
 pub mod header;

@@ -1,4 +1,6 @@
 //! The library as C calls it.
+#![tactic(auto)]
+
 ghost use Rattle.std.specs.Prelude.{◌≡◌};
 ghost use Rattle.viqondes.specs.Numbers.{answer_number, FaultNumber};
 

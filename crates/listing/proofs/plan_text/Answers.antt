@@ -10,5 +10,5 @@ loop-carrier-preserved c =
     let text = string_bytes c.loop-carrier.text in
     one_more (carrier_line (graph_draft g) (graph_visits g) (graph_crossings g)) c.loop-carrier.carrier (plan_line (graph_draft g)) text _
     c.loop-carrier.invariant
-    (c.push-str.ensures.bytes ∙ ap (λ r. cond (is_ok r) (text ++ c.as-str.result.now) text) c.in-ok-push-str.was
-    ∙ ap (λ l. text ++ l) (c.as-str.ensures.value ∙ c.in-ok-line.ensures))
+    (c.push_str.ensures.bytes ∙ ap (λ r. cond (is_ok r) (text ++ c.as_str.result.now) text) c.in_ok-push_str.was
+    ∙ ap (λ l. text ++ l) (c.as_str.ensures.value ∙ c.in_ok-line.ensures))

@@ -18,5 +18,5 @@ returns c =
     let forth : Link = record { from = c.args.crossing.first + 1; to = c.args.crossing.second } in
     let back : Link = record { from = c.args.crossing.second + 1; to = c.args.crossing.first } in
     c.add-2.ensures
-    ∙ (λ i. c.add.ensures i ++ cond (c.leads-back-back.ensures i) (back ∷ []) [])
+    ∙ (λ i. c.add.ensures i ++ cond (c.leads_back-back.ensures i) (back ∷ []) [])
     ∙ append_assoc (items c.args.links.now) (cond c.args.ways.plan (forth ∷ []) []) _

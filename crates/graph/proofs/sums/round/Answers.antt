@@ -6,7 +6,7 @@ use Rattle.graph.proofs.sums.round.Goals as goal
 
 pub loop-link-init : goal.loop-link-init
 loop-link-init g c =
-    let copied = c.copy-from-slice.ensures.after in
+    let copied = c.copy_from_slice.ensures.after in
     let ops = g.K.Kind.ops in (
       ap length copied ∙ c.requires.sizes.0,
       λ v h. ap (λ xs. get_or xs v ops.zero) copied ∙ round_none ops g.met.K.Kind.laws c.args.visits.now c.args.start.now c.args.values.now c.args.links.now v,

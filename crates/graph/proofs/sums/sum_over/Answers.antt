@@ -12,7 +12,7 @@ same_empty xs ys e f = nil_from_length xs e ∙ sym (nil_from_length ys f)
 
 pub loop-round-init : goal.loop-round-init
 loop-round-init g c =
-    let copied = c.copy-from-slice.ensures.after in
+    let copied = c.copy_from_slice.ensures.after in
     let ops = g.K.Kind.ops in (
       ap length copied ∙ c.requires.sizes.0,
       c.requires.sizes.2,

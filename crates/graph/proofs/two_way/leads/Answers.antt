@@ -22,9 +22,9 @@ returns c =
     let first = set (replicate 512 (mark false)) u (mark true) in
     let start : starts_in (mark false) (take (length vs - 0) first) ≡ marked_at u =
     ap (λ k. starts_in (mark false) (take k first)) (sub-zero (length vs)) ∙ one_marked (length vs) 512 u c.requires.ends.0 c.requires.there.0 in
-    let within : v < length c.sum-along.new.sums = let k = c.sum-along.auto.sums in search rules in
-    let at : get_or c.sum-along.new.sums v (mark false) ≡ sum_at marks vs cs ways (marked_at u) v =
-    ap (λ xs. get_or xs v (mark false)) c.sum-along.ensures.sums
+    let within : v < length c.sum_along.new.sums = let k = c.sum_along.auto.sums in search rules in
+    let at : get_or c.sum_along.new.sums v (mark false) ≡ sum_at marks vs cs ways (marked_at u) v =
+    ap (λ xs. get_or xs v (mark false)) c.sum_along.ensures.sums
     ∙ get_or-map-range_with_len (sum_at marks vs cs ways (starts_in (mark false) (take (length vs - 0) first))) 0 (length vs) v v (mark false) c.requires.ends.1 (omega arith)
     ∙ ap (λ s. sum_at marks vs cs ways s v) start in
     let P : Mark → Type 0 = λ m. Decides m.set ((w : List Edge) × GraphWalk vs cs ways u v w) in

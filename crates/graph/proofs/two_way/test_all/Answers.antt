@@ -17,7 +17,7 @@ passes-requires c =
     let k = c.loop-tested.tested in
     let at = c.loop-tested.invariant in
     let Ready : List Crossing → Type 0 = λ xs. (length xs ≤ 1024) × Between (length vs) xs × (k < length xs) × Untested xs k in
-    let r : Ready c.as-slice.result.now = subst Ready (sym c.as-slice.ensures) (
+    let r : Ready c.as_slice.result.now = subst Ready (sym c.as_slice.ensures) (
       items_few c.loop-tested.crossings,
       between_alike (length vs) (items c.args.crossings.now) cs (sym at.those) c.requires.there.1,
       omega (arith, at.number),
@@ -31,11 +31,11 @@ loop-tested-preserved c =
     let all = items c.args.crossings.now in
     let cs = items c.loop-tested.crossings in
     let k = c.loop-tested.tested in
-    let n = length c.as-slice-count.result.now in
+    let n = length c.as_slice-count.result.now in
     let P : List Crossing → Type 0 = λ xs. Decides c.passes.result (Passes vs xs k) in
-    let decides = subst P c.as-slice.ensures c.passes.ensures in
+    let decides = subst P c.as_slice.ensures c.passes.ensures in
     elim c.if-passes.branch [
-      | then-passes w ↦ next_turned vs all n cs k c.loop-tested.invariant c.loop-tested-test.true (items c.if-passes.crossings) (ap items w.crossings-is ∙ w.make-two-way.ensures) (decides.0 w.if-passes.true)
+      | then-passes w ↦ next_turned vs all n cs k c.loop-tested.invariant c.loop-tested-test.true (items c.if-passes.crossings) (ap items w.crossings-is ∙ w.make_two_way.ensures) (decides.0 w.if-passes.true)
       | else-passes w ↦ next_stays vs all n cs k c.loop-tested.invariant c.loop-tested-test.true (items c.if-passes.crossings) (ap items w.crossings-is) (λ p. both_ways _ w.if-passes.false (decides.1 p))
     ]
 

@@ -7,13 +7,13 @@ use Rattle.plan.proofs.conflicts.soonest.Goals as goal
 
 pub returns-in-Some : goal.returns-in-Some
 returns-in-Some c =
-    let (was, now) = moment c.args.paths.now _ c.loop-step.step _ _ c.header-header.ensures c.cells-before-earlier.ensures c.cells-at-later.ensures in
+    let (was, now) = moment c.args.paths.now _ c.loop-step.step _ _ c.header-header.ensures c.cells_before-earlier.ensures c.cells_at-later.ensures in
     first_here (paths_draft c.args.paths.now) c.loop-step.step _ _ was now c.args.kind c.loop-step.invariant _ _ c.in-Some.ensures
 
 pub loop-step-preserved : goal.loop-step-preserved
 loop-step-preserved c =
-    let (was, now) = moment c.args.paths.now _ c.loop-step.step _ _ c.header-header.ensures c.cells-before-earlier.ensures c.cells-at-later.ensures in
-    none_here (paths_draft c.args.paths.now) c.loop-step.step _ _ was now c.args.kind c.loop-step.invariant c.in-default.ensures
+    let (was, now) = moment c.args.paths.now _ c.loop-step.step _ _ c.header-header.ensures c.cells_before-earlier.ensures c.cells_at-later.ensures in
+    none_here (paths_draft c.args.paths.now) c.loop-step.step _ _ was now c.args.kind c.loop-step.invariant c.in_default.ensures
 
 pub returns : goal.returns
 returns c =

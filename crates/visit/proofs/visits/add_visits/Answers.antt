@@ -14,8 +14,8 @@ unwrap-requires c =
     let room = entered_room c.loop-entry.invariant c.loop-entry-test.true c.if-entry-carrier.true enters c.requires.1 in
     search rules
 
-pub overflow-add-step : goal.overflow-add-step
-overflow-add-step c = omega (arith, entered_step c.loop-entry.invariant c.loop-entry.auto.entry-index-end, c.requires.0)
+pub overflow_add-step : goal.overflow_add-step
+overflow_add-step c = omega (arith, entered_step c.loop-entry.invariant c.loop-entry.auto.entry-index-end, c.requires.0)
 
 pub loop-entry-preserved : goal.loop-entry-preserved
 loop-entry-preserved c =
@@ -30,13 +30,13 @@ loop-entry-preserved c =
                 let enters = differs _ _ x _ h (sym w'.if-ne.true ∙ e) in
                 let pushed = MatchResult-at_ok _ _ _ w'.unwrap.ensures w'.push.ensures in
                 entered_as (entered_new before within own enters) (ap items (w.visits-is ∙ w'.visits-is) ∙ pushed)
-                w.step-is w.last_is
+                w.step-is w.last-is
             | else-ne w' ↦
                 let rests = differs _ _ x _ h (sym w'.if-ne.false ∙ e) in
-                entered_as (entered_old before within own rests) (ap items (w.visits-is ∙ w'.visits-is)) w.step-is w.last_is
+                entered_as (entered_old before within own rests) (ap items (w.visits-is ∙ w'.visits-is)) w.step-is w.last-is
           ]
       | else-entry-carrier w ↦
-          entered_as (entered_other before within w.if-entry-carrier.false) (ap items w.visits-is) w.step-is w.last_is
+          entered_as (entered_other before within w.if-entry-carrier.false) (ap items w.visits-is) w.step-is w.last-is
     ]
 
 pub returns : goal.returns

@@ -8,8 +8,8 @@ use Rattle.visit.specs.Visits.{carrier_visits}
 use Rattle.visit.proofs.Few.{visits_fit}
 use Rattle.visit.proofs.visits.visits_of.Goals as goal
 
-pub add-visits-requires : goal.add-visits-requires
-add-visits-requires c =
+pub add_visits-requires : goal.add_visits-requires
+add_visits-requires c =
     let paths = c.args.paths.now in
     let i = c.loop-carrier.carrier in
     let visits = items c.loop-carrier.visits in
@@ -21,5 +21,5 @@ pub loop-carrier-preserved : goal.loop-carrier-preserved
 loop-carrier-preserved c =
     let i = c.loop-carrier.carrier in
     let before = items c.loop-carrier.visits in
-    one_more (carrier_visits (paths_draft c.args.paths.now).entries) i [] before (items c.add-visits.new.visits) c.loop-carrier.invariant
-    (rw (← c.entries.ensures) c.add-visits.ensures)
+    one_more (carrier_visits (paths_draft c.args.paths.now).entries) i [] before (items c.add_visits.new.visits) c.loop-carrier.invariant
+    (rw (← c.entries.ensures) c.add_visits.ensures)

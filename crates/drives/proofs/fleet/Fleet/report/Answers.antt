@@ -5,5 +5,5 @@ use Rattle.drives.proofs.fleet.Fleet.report.Goals as goal
 
 pub arrive-requires : goal.arrive-requires
 arrive-requires c =
-    let w = went _ c.args.carrier c.in-ok-to.to (sym c.in-ok-to.ensures) in
+    let w = went _ c.args.carrier c.in_ok-to.to (sym c.in_ok-to.ensures) in
     record { there = there _ _ _ w.1; goes = ap target w.1 }

@@ -5,5 +5,5 @@ use Rattle.drives.proofs.fleet.Fleet.send.Goals as goal
 
 pub depart-requires : goal.depart-requires
 depart-requires c =
-    let s = sym c.get.ensures ∙ (stood c.get.result c.args.carrier c.args.to c.in-ok-from.from (sym c.in-ok-from.ensures)).0 in
+    let s = sym c.get.ensures ∙ (stood c.get.result c.args.carrier c.args.to c.in_ok-from.from (sym c.in_ok-from.ensures)).0 in
     record { there = there _ _ _ s; stands = ap source s }

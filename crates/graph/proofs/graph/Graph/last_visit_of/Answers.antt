@@ -17,7 +17,7 @@ returns c =
     let paths = c.paths-paths.ensures in
     let known : i < (plan_draft p).carriers =
     omega (arith, c.if-carrier-header.false, ap (λ h. h.carriers) c.header.ensures, ap (λ r. r.header.carriers) paths) in
-    let last : c.last-visit.result ≡ last_visit (plan_draft p) i = c.last-visit.ensures ∙ ap (λ r. last_visit (paths_draft r) i) paths in
+    let last : c.last_visit.result ≡ last_visit (plan_draft p) i = c.last_visit.ensures ∙ ap (λ r. last_visit (paths_draft r) i) paths in
     let there = (last_of (plan_draft p) p.paths.sound (omega (arith, draft_length p.paths, p.paths.header.listed)) i known).0 in
     record {
       last = (omega (arith, ap (λ d. d.carriers) draft), last ∙ sym (ap (λ d. last_visit d i) draft));

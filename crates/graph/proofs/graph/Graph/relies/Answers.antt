@@ -14,13 +14,13 @@ pub returns : goal.returns
 returns c =
     let g = c.args.self.now in
     let i = c.args.carrier in
-    let v = c.in-ok-last.last in
+    let v = c.in_ok-last.last in
     let f = plan_sum sets own_carrier (graph_visits g) (graph_crossings g) in
-    let there : v < length (graph_visits g) = c.in-ok-last.ensures.there in
-    let (known, is) = c.in-ok-last.ensures.last in
-    let within : v < length c.plan-sums.new.sums = let k = c.plan-sums.auto.sums in let s = ap length c.visits-count.ensures in search rules in
-    let at : get_or c.plan-sums.new.sums v (carrier_set 0) ≡ f v =
-    ap (λ xs. get_or xs v (carrier_set 0)) c.plan-sums.ensures ∙ get_or-map-range_with_len f 0 (length (graph_visits g)) v v (carrier_set 0) there (omega arith) in
+    let there : v < length (graph_visits g) = c.in_ok-last.ensures.there in
+    let (known, is) = c.in_ok-last.ensures.last in
+    let within : v < length c.plan_sums.new.sums = let k = c.plan_sums.auto.sums in let s = ap length c.visits-count.ensures in search rules in
+    let at : get_or c.plan_sums.new.sums v (carrier_set 0) ≡ f v =
+    ap (λ xs. get_or xs v (carrier_set 0)) c.plan_sums.ensures ∙ get_or-map-range_with_len f 0 (length (graph_visits g)) v v (carrier_set 0) there (omega arith) in
     let set = get_or_append_left _ _ _ v within ∙ at ∙ ap f is in
     let Figure : ℕ → Option ℕ = λ n. Some n in
     record {

@@ -24,22 +24,22 @@ long needed start sums spare fails = (
     at : (n : ℕ) → (n < needed → ⊥) → needed ≤ n
     at n ne = omega arith
 
-pub returns-then-is-short : goal.returns-then-is-short
-returns-then-is-short g c =
+pub returns-then-is_short : goal.returns-then-is_short
+returns-then-is_short g c =
     let seen = ap length c.visits-visits.ensures in
     let Short : ℕ → Type 0 = λ n.
     (length c.args.start.now < n) ⊎ ((length c.args.sums.now < n) ⊎ (length c.args.spare.now < n)) in
     record {
-      summed = (seen, subst Short seen (c.is-short.ensures.0 c.if-is-short.true), refl, refl);
+      summed = (seen, subst Short seen (c.is_short.ensures.0 c.if-is_short.true), refl, refl);
       walks = lists_walks (graph_visits c.args.self.now) (graph_crossings c.args.self.now);
     }
 
-pub sum-along-requires : goal.sum-along-requires
-sum-along-requires g c =
+pub sum_along-requires : goal.sum_along-requires
+sum_along-requires g c =
     let graph = c.args.self.now in
     let vs = c.visits-visits.result.now in
     let cs = c.crossings.result.now in
-    let (a, b, d) = long (length vs) (length c.args.start.now) (length c.args.sums.now) (length c.args.spare.now) (λ h. both_ways _ c.if-is-short.false (c.is-short.ensures.1 h)) in
+    let (a, b, d) = long (length vs) (length c.args.start.now) (length c.args.sums.now) (length c.args.spare.now) (λ h. both_ways _ c.if-is_short.false (c.is_short.ensures.1 h)) in
     let n = sub-zero (length vs) in
     record {
       there = graph_ready graph vs cs c.visits-visits.ensures c.crossings.ensures;
@@ -61,9 +61,9 @@ returns g c =
     let seen = c.visits-visits.ensures in
     let crossed = c.crossings.ensures in
     let n : length c.visits-visits.result.now - 0 ≡ length vs = sub-zero _ ∙ ap length seen in
-    let room = long (length c.visits-visits.result.now) (length start) (length c.args.sums.now) (length c.args.spare.now) (λ h. both_ways _ c.if-is-short.false (c.is-short.ensures.1 h)) in
-    let found : c.sum-along.new.sums ≡ sums_of ops vs cs ways start =
-    c.sum-along.ensures.sums
+    let room = long (length c.visits-visits.result.now) (length start) (length c.args.sums.now) (length c.args.spare.now) (λ h. both_ways _ c.if-is_short.false (c.is_short.ensures.1 h)) in
+    let found : c.sum_along.new.sums ≡ sums_of ops vs cs ways start =
+    c.sum_along.ensures.sums
     ∙ (λ i. map (sum_at ops (seen i) (crossed i) ways (starts_in ops.zero (take (n i) start))) (range_with_len 0 (length (seen i))))
     ∙ starts_cut ops g.met.K.Kind.laws vs cs ways start (timely_between vs cs (timely graph)) in
     let all : length (sums_of ops vs cs ways start) ≡ length vs = length-map-range_with_len (sum_at ops vs cs ways (starts_in ops.zero start)) 0 (length vs) in
@@ -72,7 +72,7 @@ returns g c =
       summed = (
         omega (arith, room.0, ap length seen),
         (omega (arith, all, room.1, ap length seen), λ i. found i ++ drop (past i) c.args.sums.now),
-        (omega (arith, all, room.2, ap length seen), λ i. (c.sum-along.ensures.spare ∙ found) i ++ drop (past i) c.args.spare.now),
+        (omega (arith, all, room.2, ap length seen), λ i. (c.sum_along.ensures.spare ∙ found) i ++ drop (past i) c.args.spare.now),
       );
       walks = lists_walks vs cs;
     }

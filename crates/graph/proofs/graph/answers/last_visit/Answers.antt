@@ -5,8 +5,8 @@ use Rattle.visit.specs.Visits.{first_visits}
 use Rattle.visit.proofs.Few.{carrier_count, first_more, visits_rise, visits_fit}
 use Rattle.graph.proofs.graph.answers.last_visit.Goals as goal
 
-pub overflow-add-count : goal.overflow-add-count
-overflow-add-count c =
+pub overflow_add-count : goal.overflow_add-count
+overflow_add-count c =
     let r = c.args.paths.now in
     let es = (paths_draft r).entries in
     let i = c.args.carrier in
@@ -30,4 +30,4 @@ pub returns : goal.returns
 returns c =
     let es = (paths_draft c.args.paths.now).entries in
     let all : c.loop-lower.lower ≡ c.args.carrier = omega arith in
-    omega (arith, c.loop-lower.invariant, c.saturating-sub.ensures, first_more es c.args.carrier, ap (λ n. length (first_visits es n)) all)
+    omega (arith, c.loop-lower.invariant, c.saturating_sub.ensures, first_more es c.args.carrier, ap (λ n. length (first_visits es n)) all)

@@ -8,7 +8,7 @@ pub loop-visit-preserved : goal.loop-visit-preserved
 loop-visit-preserved g c v h =
     let blank = g.K.Kind.ops.zero in
     let f = λ (u : ℕ). cond (is_start c.args.visits.now u) (g.K.Starting.starting (visit c.args.visits.now u)) blank in
-    ap (λ x. get_or (set c.loop-visit.start c.loop-visit.visit x) v blank) c.start-at.ensures
+    ap (λ x. get_or (set c.loop-visit.start c.loop-visit.visit x) v blank) c.start_at.ensures
     ∙ fill_by_more f c.loop-visit.start c.loop-visit.visit blank (omega (arith, c.requires)) c.loop-visit.invariant v h
 
 pub returns : goal.returns

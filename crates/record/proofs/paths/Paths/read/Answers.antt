@@ -7,14 +7,14 @@ use Rattle.record.proofs.paths.Paths.read.Goals as goal
 
 pub load-entries-requires : goal.load-entries-requires
 load-entries-requires c =
-    let (read, sound) = c.in-ok-header.ensures in
+    let (read, sound) = c.in_ok-header.ensures in
     (read, same_unless _ _ (sound Length) ∙ ap (λ n. 8 + 3 * n) (sym read.entries_read))
 
-pub returns-in-err-validate : goal.returns-in-err-validate
-returns-in-err-validate c =
-    let p = err_from_is_err_and c.from-residual-in-err-validate.result c.from-residual-in-err-validate.ensures.1 in
-    let (read, sound) = c.in-ok-header.ensures in
-    rw (p.1, p.2) (validated_first _ sound _ _ (drafts_same _ _ _ read (ap (λ n. take n c.load-entries.result) (sub-zero _) ∙ c.load-entries.ensures.read)) c.in-err-validate.ensures)
+pub returns-in_err-validate : goal.returns-in_err-validate
+returns-in_err-validate c =
+    let p = err_from_is_err_and c.from_residual-in_err-validate.result c.from_residual-in_err-validate.ensures.1 in
+    let (read, sound) = c.in_ok-header.ensures in
+    rw (p.1, p.2) (validated_first _ sound _ _ (drafts_same _ _ _ read (ap (λ n. take n c.load-entries.result) (sub-zero _) ∙ c.load-entries.ensures.read)) c.in_err-validate.ensures)
 
-pub invariant-of-result : goal.invariant-of-result
-invariant-of-result c = (c.load-entries.ensures.room, (simp sub-zero at c.in-ok-validate.ensures, tt))
+pub invariant_of-result : goal.invariant_of-result
+invariant_of-result c = record { room = c.load-entries.ensures.room; sound = simp sub-zero at c.in_ok-validate.ensures }

@@ -7,8 +7,8 @@ use Rattle.record.proofs.Steps.{Kept, path_le, reached_more}
 use Rattle.record.proofs.paths.steps.cells_in.Goals as goal
 use Rattle.record.proofs.paths.steps.cells_in.Goals.{then-seen-carrier, else-seen-carrier}
 
-pub overflow-add-seen : goal.overflow-add-seen
-overflow-add-seen c =
+pub overflow_add-seen : goal.overflow_add-seen
+overflow_add-seen c =
     let k = c.loop-entry.entry-index in
     let es = c.args.entries.now in
     let i = (entry es k).carrier in

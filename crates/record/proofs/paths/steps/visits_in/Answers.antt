@@ -7,8 +7,8 @@ use Rattle.record.proofs.Visits.{Last, byte_le, differs, last_more, visits_le, v
 use Rattle.record.proofs.paths.steps.visits_in.Goals as goal
 use Rattle.record.proofs.paths.steps.visits_in.Goals.{then-entry-carrier, else-entry-carrier}
 
-pub overflow-add-count : goal.overflow-add-count
-overflow-add-count c =
+pub overflow_add-count : goal.overflow_add-count
+overflow_add-count c =
     let k = c.loop-entry.entry-index in
     let es = c.args.entries.now in
     let r = path (take k es) c.args.carrier in
@@ -22,13 +22,13 @@ loop-entry-preserved c =
     elim c.if-entry-carrier.branch [
       | then-entry-carrier w ↦
           let own = path_own es k in_list c.args.carrier w.if-entry-carrier.true in
-          let more = visits_more (path (take k es) c.args.carrier) (entry es k).cell _ _ c.loop-entry.invariant.1 (let (x, h, e) = w.ne.ensures in differs _ _ x _ h e) in (
+          let more = visits_more (path (take k es) c.args.carrier) (entry es k).cell _ _ c.loop-entry.invariant.1 (differs _ _ _ w.ne.ensures) in (
             w.count-is ∙ (λ i. c.loop-entry.invariant.0 i + w.from-count.ensures i) ∙ sym more ∙ ap visit_count (sym own),
-            rw (w.last_is, own) (last_more _ _),
+            rw (w.last-is, own) (last_more _ _),
           )
       | else-entry-carrier w ↦
           let other = path_other es k in_list c.args.carrier w.if-entry-carrier.false in
-          (w.count-is ∙ c.loop-entry.invariant.0 ∙ ap visit_count (sym other), rw w.last_is (subst (λ r. Last r c.loop-entry.last) (sym other) c.loop-entry.invariant.1))
+          (w.count-is ∙ c.loop-entry.invariant.0 ∙ ap visit_count (sym other), rw w.last-is (subst (λ r. Last r c.loop-entry.last) (sym other) c.loop-entry.invariant.1))
     ]
 
 pub returns : goal.returns
