@@ -153,8 +153,8 @@ module _ (d : Draft) where
         ap (λ k. get_or own k 0) e ∙ stays_in_path n (omega arith) (λ next. omega (arith, until next))
 
 -- what it is to cross
-cross_parts : (vs : List Visit) (u w : ℕ) → crosses vs u w ≡ true → ((visit vs u).carrier ≡ (visit vs w).carrier → ⊥) × ((visit vs u).cell ≡ (visit vs w).cell) × ((visit vs u).step < (visit vs w).step)
-cross_parts vs u w e =
+cross_parts : (es : List Visit) (u w : ℕ) → crosses es u w ≡ true → ((visit es u).carrier ≡ (visit es w).carrier → ⊥) × ((visit es u).cell ≡ (visit es w).cell) × ((visit es u).step < (visit es w).step)
+cross_parts es u w e =
     let (other, rest) = and_parts _ _ e in
     let (same, sooner) = and_parts _ _ rest in
     (eqb-false _ _ (not-true _ other), eqb-true _ _ same, ltb-true _ _ sooner)

@@ -9,8 +9,7 @@ use Rattle.visit.proofs.visits.add_visits.Goals.{then-entry-carrier, then-ne, el
 -- a visit less than the carrier's all has been added, so one more has room
 pub unwrap-requires : goal.unwrap-requires
 unwrap-requires c =
-    let (x, h, e) = c.ne.ensures in
-    let enters = differs _ _ x _ h (sym c.if-ne.true ∙ e) in
+    let enters = differs _ _ _ (sym c.if-ne.true ∙ c.ne.ensures) in
     let room = entered_room c.loop-entry.invariant c.loop-entry-test.true c.if-entry-carrier.true enters c.requires.1 in
     search rules
 
@@ -24,15 +23,14 @@ loop-entry-preserved c =
     elim c.if-entry-carrier.branch [
       | then-entry-carrier w ↦
           let own = w.if-entry-carrier.true in
-          let (x, h, e) = w.ne.ensures in
           elim w.if-ne.branch [
             | then-ne w' ↦
-                let enters = differs _ _ x _ h (sym w'.if-ne.true ∙ e) in
+                let enters = differs _ _ _ (sym w'.if-ne.true ∙ w.ne.ensures) in
                 let pushed = MatchResult-at_ok _ _ _ w'.unwrap.ensures w'.push.ensures in
                 entered_as (entered_new before within own enters) (ap items (w.visits-is ∙ w'.visits-is) ∙ pushed)
                 w.step-is w.last-is
             | else-ne w' ↦
-                let rests = differs _ _ x _ h (sym w'.if-ne.false ∙ e) in
+                let rests = differs _ _ _ (sym w'.if-ne.false ∙ w.ne.ensures) in
                 entered_as (entered_old before within own rests) (ap items (w.visits-is ∙ w'.visits-is)) w.step-is w.last-is
           ]
       | else-entry-carrier w ↦

@@ -10,4 +10,4 @@ read xs i None h = sym (slice_get_past xs i h.3)
 read xs i (Some x) h = sym (slice_get_read xs (length xs) i x.now refl h.3.0 h.1)
 
 pub returns : goal.returns
-returns c = c.copied.ensures ∙ read c.as_slice.result.now c.args.carrier c.get.result c.get.ensures.finds ∙ ap (λ l. slice_get l c.args.carrier) c.as_slice.ensures
+returns c = c.copied.ensures ∙ read c.as_slice.result.now c.args.carrier c.get.result c.get.ensures.lookup ∙ ap (λ l. slice_get l c.args.carrier) c.as_slice.ensures
