@@ -15,6 +15,7 @@ pub mod loads;
 pub mod reads;
 
 /// The temporal plan graph of an accepted plan, or of no plan and no carriers.
+#[derive(Clone, Copy)]
 pub struct Graph {
     plan: Option<Plan>,
     visits: Bounded<Visit, MAX_ENTRIES>,
@@ -23,5 +24,3 @@ pub struct Graph {
     ghost crossed: { map one_way (items crossings) ≡ plan_crossings (items visits) },
     ghost tested: { ∥ AllTested (items visits) (items crossings) (length (items crossings)) ∥₁ },
 }
-
-impl Copy for Graph {}

@@ -14,7 +14,7 @@ use walk::visit::Visit;
 /// What a link brings: the value that it comes from, carried into the visit that it leads to.
 fn bring<K: Kind>(link: Link, visits: &[Visit], values: &[K], next: &mut [K])
     requires { Within (length visits.now) link × (length values.now ≡ length visits.now) × (length next.old ≡ length visits.now) }
-    ensures { next.new ≡ slice_set next.old link.to (ops.join (slice_index_or next.old link.to ops.zero) (ops.step (slice_index_or values.now link.from ops.zero) (visit visits.now link.to))) }
+    ensures { next.new ≡ slice_set next.old link.to (K.ops.join (slice_index_or next.old link.to K.ops.zero) (K.ops.step (slice_index_or values.now link.from K.ops.zero) (visit visits.now link.to))) }
 {
     let to = link.to as usize;
     let brought = values[link.from as usize].step(visits[to]);
@@ -25,7 +25,7 @@ fn bring<K: Kind>(link: Link, visits: &[Visit], values: &[K], next: &mut [K])
 fn round<K: Kind>(links: &[Link], visits: &[Visit], start: &[K], values: &[K], next: &mut [K])
     requires inside { All (Within (length visits.now)) links.now }
     requires sizes { (length start.now ≡ length visits.now) × (length values.now ≡ length visits.now) × (length next.old ≡ length visits.now) }
-    ensures { (v : ℕ) → v < length visits.now → slice_index_or next.new v ops.zero ≡ round_at ops visits.now start.now values.now links.now v }
+    ensures { (v : ℕ) → v < length visits.now → slice_index_or next.new v K.ops.zero ≡ round_at K.ops visits.now start.now values.now links.now v }
 {
     next.copy_from_slice(start);
     for link in links {
@@ -61,7 +61,7 @@ pub(crate) fn sum_over<K: Kind>(
     requires inside { All (Within (length visits.now)) links.now }
     requires sizes { (length start.now ≡ length visits.now) × (length sums.old ≡ length visits.now) × (length next.old ≡ length visits.now) }
     ensures twins { next.new ≡ sums.new }
-    ensures sums { (v : ℕ) → v < length visits.now → slice_index_or sums.new v ops.zero ≡ sum_over ops visits.now link_from link_to links.now (λ u. get_or start.now u ops.zero) (length visits.now) v }
+    ensures sums { (v : ℕ) → v < length visits.now → slice_index_or sums.new v K.ops.zero ≡ sum_over K.ops visits.now link_from link_to links.now (λ u. get_or start.now u K.ops.zero) (length visits.now) v }
 {
     sums.copy_from_slice(start);
     for _round in 0..visits.len() {
@@ -84,7 +84,7 @@ pub(crate) fn sum_along<K: Kind>(
 )
     requires there { (length visits.now ≤ 512) × (length crossings.now ≤ 1024) × Between (length visits.now) crossings.now }
     requires sizes { (length start.now ≡ length visits.now) × (length sums.old ≡ length visits.now) × (length spare.old ≡ length visits.now) }
-    ensures sums { sums.new ≡ map (sum_at ops visits.now crossings.now (ways_in ways.now) (starts_in ops.zero start.now)) (range_with_len 0 (length visits.now)) }
+    ensures sums { sums.new ≡ map (sum_at K.ops visits.now crossings.now (ways_in ways.now) (starts_in K.ops.zero start.now)) (range_with_len 0 (length visits.now)) }
     ensures spare { spare.new ≡ sums.new }
 {
     let links = links_of(visits, crossings, ways);

@@ -36,8 +36,8 @@ impl<D: Drive> Section<D> {
 
     /// How many carriers are shown.
     fn shown(&self) -> u8
-        ensures value { result ≡ min (length (meaning self.now.inner) - self.now.first) self.now.most }
-        ensures few { length (meaning self.now.inner) ≤ 16 }
+        ensures value { result ≡ min (length (D.meaning self.now.inner) - self.now.first) self.now.most }
+        ensures few { length (D.meaning self.now.inner) ≤ 16 }
     {
         let beyond = self.inner.count().saturating_sub(self.first);
         beyond.min(self.most)
@@ -45,7 +45,7 @@ impl<D: Drive> Section<D> {
 
     /// The number below of a carrier that is shown.
     fn below(&self, carrier: u8) -> Result<u8, DriveFault>
-        ensures { MatchResult result (λ k. (k ≡ self.now.first + carrier) × (carrier < length (part_places meaning self.now))) (λ f. (f ≡ NoCarrier carrier) × (length (part_places meaning self.now) ≤ carrier)) }
+        ensures { MatchResult result (λ k. (k ≡ self.now.first + carrier) × (carrier < length (part_places D.meaning self.now))) (λ f. (f ≡ NoCarrier carrier) × (length (part_places D.meaning self.now) ≤ carrier)) }
     {
         if carrier < self.shown() {
             Ok(self.first + carrier)

@@ -33,7 +33,7 @@ fn last_visit(paths: &Paths, carrier: u8) -> usize
 /// The value that starts on a visit: on each carrier's first visit the kind's own, else zero.
 fn start_at<K: Starting>(visits: &[Visit], visit: usize) -> K
     requires { visit < length visits.now }
-    ensures { result ≡ (if is_start visits.now visit then starting (slice_index_or visits.now visit no_visit) else K.Kind.ops.zero) }
+    ensures { result ≡ (if is_start visits.now visit then K.starting (slice_index_or visits.now visit no_visit) else K.Kind.ops.zero) }
 {
     if is_start(visits, visit) {
         K::start(visits[visit])
@@ -45,7 +45,7 @@ fn start_at<K: Starting>(visits: &[Visit], visit: usize) -> K
 /// Starts a value on each carrier's first visit, and zero on the others.
 fn start_all<K: Starting>(visits: &[Visit], start: &mut [K])
     requires { length start.old ≡ length visits.now }
-    ensures { start.new ≡ starts K.Kind.ops.zero starting visits.now }
+    ensures { start.new ≡ starts K.Kind.ops.zero K.starting visits.now }
 {
     for visit in 0..visits.len() {
         start[visit] = start_at(visits, visit);
@@ -73,7 +73,7 @@ fn plan_ways() -> [Ways; MAX_CROSSINGS]
 /// `start` and `spare` are room to compute in.
 fn plan_sums<K: Starting>(graph: &Graph, start: &mut [K], sums: &mut [K], spare: &mut [K])
     requires { (length start.old ≡ length (graph_visits graph.now)) × (length sums.old ≡ length (graph_visits graph.now)) × (length spare.old ≡ length (graph_visits graph.now)) }
-    ensures { sums.new ≡ map (plan_sum K.Kind.ops starting (graph_visits graph.now) (graph_crossings graph.now)) (range_with_len 0 (length (graph_visits graph.now))) }
+    ensures { sums.new ≡ map (plan_sum K.Kind.ops K.starting (graph_visits graph.now) (graph_crossings graph.now)) (range_with_len 0 (length (graph_visits graph.now))) }
 {
     let visits = graph.visits();
     start_all(visits, start);
@@ -107,7 +107,7 @@ impl Graph {
         sums: &mut [K],
         spare: &mut [K],
     ) -> Result<(), RoomFault>
-        ensures summed { Summed (length (graph_visits self.now)) (sums_of ops (graph_visits self.now) (graph_crossings self.now) (ways_in ways.now) start.now) start.now sums.old sums.new spare.old spare.new result }
+        ensures summed { Summed (length (graph_visits self.now)) (sums_of K.ops (graph_visits self.now) (graph_crossings self.now) (ways_in ways.now) start.now) start.now sums.old sums.new spare.old spare.new result }
         ensures walks { (taken : ℕ → Ways) (k v : ℕ) → ListsWalks (graph_visits self.now) (graph_crossings self.now) taken k v }
     {
         let visits = self.visits();

@@ -29,7 +29,7 @@ loop-round-preserved g c =
       λ h. sym copied,
       λ v h.
           ap (λ xs. get_or xs v g.K.Kind.ops.zero) copied ∙ c.round.ensures v h
-          ∙ round_sum g.K.Kind.ops g.met.K.Kind.laws c.args.visits.now c.args.start.now c.loop-round.sums c.args.links.now c.loop-round.-round (length c.args.visits.now) c.requires.inside c.loop-round.invariant.3 v,
+          ∙ round_sum g.K.Kind.ops g.met.K.Kind.laws c.args.visits.now c.args.start.now c.loop-round.sums c.args.links.now c.loop-round._round (length c.args.visits.now) c.requires.inside c.loop-round.invariant.3 v,
     )
 
 pub returns-then-settle : goal.returns-then-settle
@@ -38,13 +38,13 @@ returns-then-settle g c =
       twins = sym c.settle.ensures.after;
       sums = λ v h.
           ap (λ xs. get_or xs v g.K.Kind.ops.zero) c.settle.ensures.after
-          ∙ sum_settled g.K.Kind.ops g.met.K.Kind.laws c.args.visits.now c.args.start.now c.loop-round.sums c.round.new.next c.args.links.now c.loop-round.-round (length c.args.visits.now) c.requires.inside (omega arith) (c.settle.ensures.quiet.0 c.if-settle.true) c.round.ensures c.loop-round.invariant.3 v h;
+          ∙ sum_settled g.K.Kind.ops g.met.K.Kind.laws c.args.visits.now c.args.start.now c.loop-round.sums c.round.new.next c.args.links.now c.loop-round._round (length c.args.visits.now) c.requires.inside (omega arith) (c.settle.ensures.quiet.0 c.if-settle.true) c.round.ensures c.loop-round.invariant.3 v h;
     }
 
 pub returns : goal.returns
 returns g c =
-    let all : c.loop-round.-round ≡ length c.args.visits.now = omega arith in
+    let all : c.loop-round._round ≡ length c.args.visits.now = omega arith in
     record {
-      twins = ⊎_elim c.loop-round.invariant.2 (λ none. same_empty c.loop-round.next c.loop-round.sums (omega (arith, c.loop-round.invariant.1)) (omega (arith, c.loop-round.invariant.0))) (cases_lt 0 c.loop-round.-round);
+      twins = ⊎_elim c.loop-round.invariant.2 (λ none. same_empty c.loop-round.next c.loop-round.sums (omega (arith, c.loop-round.invariant.1)) (omega (arith, c.loop-round.invariant.0))) (cases_lt 0 c.loop-round._round);
       sums = λ v h. c.loop-round.invariant.3 v h ∙ ap (λ k. sum_over g.K.Kind.ops c.args.visits.now link_from link_to c.args.links.now (λ u. get_or c.args.start.now u g.K.Kind.ops.zero) k v) all;
     }

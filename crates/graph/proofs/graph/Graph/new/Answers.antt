@@ -9,4 +9,8 @@ invariant_of-result c =
     let vs = items c.new.result in
     let cs = items c.new-2.result in
     let judges : AllTested vs cs (length cs) = λ k h. absurd (let z : ⊥ = omega (arith, ap length c.new-2.ensures) in z) in
-    (c.new.ensures, (ap (map one_way) c.new-2.ensures ∙ sym (ap plan_crossings c.new.ensures), (∣ judges ∣₁, tt)))
+    record {
+      visited = c.new.ensures;
+      crossed = ap (map one_way) c.new-2.ensures ∙ sym (ap plan_crossings c.new.ensures);
+      tested = ∣ judges ∣₁;
+    }

@@ -32,4 +32,4 @@ invariant_of-result c =
     let visited : vs ≡ plan_visits (plan_draft c.args.plan) = c.visits_of-visits.ensures ∙ ap (λ r. plan_visits (paths_draft r)) c.paths.ensures in
     let crossed : map one_way cs ≡ plan_crossings vs = c.test_all.ensures.same ∙ ap (map one_way) found ∙ plan_one_way vs in
     let P : List Visit → Type 0 = λ xs. AllTested xs cs (length cs) in
-    (visited, (crossed, (∣ subst P c.as_slice.ensures c.test_all.ensures.tested ∣₁, tt)))
+    record { visited = visited; crossed = crossed; tested = ∣ subst P c.as_slice.ensures c.test_all.ensures.tested ∣₁ }
