@@ -1,4 +1,4 @@
-//! The library as C calls it.
+//! The library's calls as C makes them; viqondes_c exports each under its symbol.
 #![tactic(auto)]
 
 ghost use Rattle.std.specs.Prelude.{◌≡◌};
@@ -17,8 +17,7 @@ fn number(answer: Result<(), GraphFault>) -> u8
 }
 
 /// The number of the fault of a plan record or of its graph, or 0 where there is none.
-#[unsafe(no_mangle)]
-pub extern "C" fn viqondes_plan_fault(bytes: &[u8]) -> u8
+pub fn viqondes_plan_fault(bytes: &[u8]) -> u8
     ensures { FaultNumber bytes.now result }
 {
     let mut graph = Graph::new();
