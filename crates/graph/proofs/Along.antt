@@ -1,6 +1,6 @@
 -- Sums over links are sums along the edges that the links are.
 use Rattle.std.proofs.Common.{◌≡◌, ℕ, zero, suc, ◌+◌, ◌<◌, true, cond, eqb, ltb, List, [], ◌∷◌, ◌++◌, map, length, take, sym, ap, ◌∙◌, arith}
-use Rattle.std.specs.List.{range_with_len, flat_map, AllByRecursion as All}
+use Rattle.std.specs.List.{range_with_len, flat_map, AllByRecursion}
 use Rattle.std.proofs.lemmas.List.{get_or-take}
 use Rattle.std.proofs.lemmas.List.FromFn.{fill_by_all, length-map-range_with_len, get_or-map-range_with_len}
 use Rattle.std.proofs.ByRecursion.{All-map, All-weaker, kept_by_passes}
@@ -29,16 +29,16 @@ module _ (vs : List Visit) (cs : List Crossing) (ways : ℕ → Ways) (between :
       let b = between k (ltb-true _ _ l) in
       (next_there vs _ (and_parts (ways k).reversed _ r).1, omega arith)
 
-  edges_within : All (λ e. Within (length vs) (link cs e)) (edges vs cs ways)
+  edges_within : AllByRecursion (λ e. Within (length vs) (link cs e)) (edges vs cs ways)
   edges_within =
       All-weaker (λ e. is_edge vs cs ways e ≡ true) (λ e. Within (length vs) (link cs e)) edge_within (edges vs cs ways)
       (kept_by_passes (is_edge vs cs ways)
       (map path_edge (range_with_len 0 (length vs)) ++ flat_map (λ k. plan_edge k ∷ reversed_edge k ∷ []) (range_with_len 0 (length cs))))
 
-  edges_from : All (λ e. from cs e < length vs) (edges vs cs ways)
+  edges_from : AllByRecursion (λ e. from cs e < length vs) (edges vs cs ways)
   edges_from = All-weaker (λ e. Within (length vs) (link cs e)) (λ e. from cs e < length vs) (λ e w. w.0) (edges vs cs ways) edges_within
 
-  pub links_within : All (Within (length vs)) (links vs cs ways)
+  pub links_within : AllByRecursion (Within (length vs)) (links vs cs ways)
   links_within = All-map (Within (length vs)) (link cs) (edges vs cs ways) edges_within
 
 module _ {K : Type 0} (ops : Operations K) (laws : Laws ops) (vs : List Visit) (cs : List Crossing) (es : List Edge) (start : ℕ → K) where

@@ -1,6 +1,6 @@
 -- Links one after another, and the edges that they are.
 use Rattle.std.proofs.Common.{◌≡◌, ℕ, ◌+◌, ◌<◌, ◌≤◌, Bool, true, false, cond, ◌&&◌, ltb, List, [], ◌∷◌, ◌++◌, map, length, filter, sym, refl, ap, ◌∙◌, arith}
-use Rattle.std.specs.List.{range_with_len, flat_map, AllByRecursion as All}
+use Rattle.std.specs.List.{range_with_len, flat_map, AllByRecursion}
 use Rattle.std.proofs.lemmas.List.FromFn.{length-range_with_len, get_or-range_with_len}
 use Rattle.std.proofs.lemmas.List.Elements.{filter-append}
 use Rattle.std.proofs.ByRecursion.{All-from_get_or}
@@ -36,7 +36,7 @@ kept_one : {X Y : Type 0} (g : X → Y) (b : Bool) (x : X) (ys : List X) → map
 kept_one g true x ys = refl
 kept_one g false x ys = refl
 
-below : (n : ℕ) → All (λ k. k < n) (range_with_len 0 n)
+below : (n : ℕ) → AllByRecursion (λ k. k < n) (range_with_len 0 n)
 below n = All-from_get_or (λ k. k < n) (range_with_len 0 n) 0 (λ i h. let l : i < n = omega (arith, length-range_with_len 0 n) in omega (arith, get_or-range_with_len 0 n i 0 l))
 
 module _ (vs : List Visit) (cs : List Crossing) (ways : ℕ → Ways) where
@@ -56,7 +56,7 @@ module _ (vs : List Visit) (cs : List Crossing) (ways : ℕ → Ways) where
       ∙ sym (kept_one (link cs) (ways k).plan (plan_edge k) after)
       ∙ ap (λ t. map (link cs) (cond (t && (ways k).plan) (plan_edge k ∷ cond (t && back) (reversed_edge k ∷ rest) rest) (cond (t && back) (reversed_edge k ∷ rest) rest))) (sym there)
 
-  crossing_part : (ns : List ℕ) → All (λ k. k < length cs) ns → flat_map (crossing_links vs cs ways) ns ≡ map (link cs) (filter (is_edge vs cs ways) (flat_map (λ k. plan_edge k ∷ reversed_edge k ∷ []) ns))
+  crossing_part : (ns : List ℕ) → AllByRecursion (λ k. k < length cs) ns → flat_map (crossing_links vs cs ways) ns ≡ map (link cs) (filter (is_edge vs cs ways) (flat_map (λ k. plan_edge k ∷ reversed_edge k ∷ []) ns))
   crossing_part [] there = refl
   crossing_part (k ∷ ns) there =
       ap (λ r. crossing_links vs cs ways k ++ r) (crossing_part ns there.1)

@@ -1,6 +1,6 @@
 -- Marks decide whether a walk leads from one visit to another.
 use Rattle.std.proofs.Common.{◌≡◌, ℕ, ◌<◌, ◌≤◌, true, false, List, [], ◌∷◌, length, get_or, take, set, replicate, Decides, sym, ap, ◌∙◌, ⊎_elim, arith}
-use Rattle.std.specs.List.{AllByRecursion as All}
+use Rattle.std.specs.List.{AllByRecursion}
 use Rattle.std.proofs.lemmas.List.{length-replicate, length-take, get_or-take, get_or_past, get_or-replicate, get_or-set_same, get_or-set_other}
 use Rattle.std.proofs.lemmas.Bool.{cases_eq, cases_lt, eq-eqb, ne_eqb}
 use Rattle.walk.specs.declared.visit.Visit.{Visit}
@@ -41,7 +41,7 @@ one_marked n m u h le = λ i x. at x i
     at x = ⊎_elim (within x) (past x) (cases_lt x n)
 
 module _ (vs : List Visit) (cs : List Crossing) (ways : ℕ → Ways) (between : Between (length vs) cs) (u : ℕ) (there : u < length vs) where
-  trail_there : (v : ℕ) (w : List Edge) → GraphWalk vs cs ways u v w → All (λ x. x < length vs) (trail cs v w)
+  trail_there : (v : ℕ) (w : List Edge) → GraphWalk vs cs ways u v w → AllByRecursion (λ x. x < length vs) (trail cs v w)
   trail_there v [] e = (omega arith, tt)
   trail_there v (e ∷ w) (i, t, h) =
       let l = (edge_within vs cs ways between e i).1 in

@@ -1,5 +1,5 @@
 ghost use Rattle.std.specs.Prelude.{◌≡◌, ℕ, ◌<◌, ◌≤◌, map, length, get_or, Decides, slice_index_or, slice_set};
-ghost use Rattle.std.specs.List.{AllByRecursion as All, range_with_len};
+ghost use Rattle.std.specs.List.{AllByRecursion, range_with_len};
 ghost use Rattle.walk.specs.Edges.{visit};
 ghost use Rattle.walk.specs.Sums.{sum_over, sum_at};
 ghost use Rattle.graph.specs.Links.{Within, Between, link_from, link_to};
@@ -23,7 +23,7 @@ fn bring<K: Kind>(link: Link, visits: &[Visit], values: &[K], next: &mut [K])
 
 /// One round: what starts at each visit, joined with what every link brings there.
 fn round<K: Kind>(links: &[Link], visits: &[Visit], start: &[K], values: &[K], next: &mut [K])
-    requires inside { All (Within (length visits.now)) links.now }
+    requires inside { AllByRecursion (Within (length visits.now)) links.now }
     requires sizes { (length start.now ≡ length visits.now) × (length values.now ≡ length visits.now) × (length next.old ≡ length visits.now) }
     ensures { (v : ℕ) → v < length visits.now → slice_index_or next.new v K.ops.zero ≡ round_at K.ops visits.now start.now values.now links.now v }
 {
@@ -58,7 +58,7 @@ pub(crate) fn sum_over<K: Kind>(
     sums: &mut [K],
     next: &mut [K],
 )
-    requires inside { All (Within (length visits.now)) links.now }
+    requires inside { AllByRecursion (Within (length visits.now)) links.now }
     requires sizes { (length start.now ≡ length visits.now) × (length sums.old ≡ length visits.now) × (length next.old ≡ length visits.now) }
     ensures twins { next.new ≡ sums.new }
     ensures sums { (v : ℕ) → v < length visits.now → slice_index_or sums.new v K.ops.zero ≡ sum_over K.ops visits.now link_from link_to links.now (λ u. get_or start.now u K.ops.zero) (length visits.now) v }

@@ -1,5 +1,5 @@
 use Rattle.std.proofs.Common.{◌≡◌, List, length, sym, ap, ◌∙◌, subst, arith}
-use Rattle.std.specs.List.{AllByRecursion as All}
+use Rattle.std.specs.List.{AllByRecursion}
 use Rattle.std.proofs.lemmas.List.FromFn.{fill_by_all}
 use Rattle.walk.specs.Edges.{edges}
 use Rattle.walk.specs.Sums.{sum_over, sum_at}
@@ -14,7 +14,7 @@ sum_over-requires g c =
     let vs = c.args.visits.now in
     let cs = c.args.crossings.now in
     let ways = ways_in c.args.ways.now in
-    let all : List Link → Type 0 = All (Within (length vs)) in
+    let all : List Link → Type 0 = AllByRecursion (Within (length vs)) in
     record {
       inside = subst all (sym c.links_of-links.ensures ∙ sym c.as_slice.ensures) (links_within vs cs ways c.requires.there.2);
       sizes = c.requires.sizes;
