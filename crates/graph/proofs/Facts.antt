@@ -32,7 +32,7 @@ pub judged : (vs : List Visit) (cs : List Crossing) (n : ℕ) → ∥ AllTested 
 judged vs cs n h =
     ∥∥₁_elim h (Π_prop (λ k. Π_prop (λ l. ×_prop (Π_prop (λ e. ×_prop (×_prop (Bool-set _ _) (Bool-set _ _)) (Π_prop (λ w. Π_prop (λ t. ⊥_prop))))) (Π_prop (λ p. Bool-set _ _))))) (λ j. j)
 
--- ---- crossings as they are found are one_way
+-- ---- crossings as they are found are one-way
 
 made_one_way : (vs : List Visit) (u : ℕ) (ws : List ℕ) → map one_way (map (crossing_of vs u) ws) ≡ map (crossing_of vs u) ws
 made_one_way vs u [] = refl

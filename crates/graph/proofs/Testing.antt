@@ -13,7 +13,7 @@ use Rattle.graph.specs.Graphs.{one_way, AllTested}
 use Rattle.graph.specs.Tests.{made_two_way, Untested}
 use Rattle.graph.proofs.Alike.{ways_walk, firsts, seconds, lengths, candidate_alike, test_alike, tested_alike}
 
--- the ways of a test while the crossings from k on are one_way
+-- the ways of a test while the crossings from k on are one-way
 module _ (vs : List Visit) (cs : List Crossing) (k : ℕ) (untested : Untested cs k) (ways : ℕ → Ways) (are : (j : ℕ) → j < length cs → ways j ≡ record { plan = not (eqb j k); reversed = (crossing cs j).two_way }) where
   before : (j : ℕ) → (crossing cs j).two_way ≡ (ltb j k && (crossing cs j).two_way)
   before j =
@@ -46,7 +46,7 @@ one_way_set (x ∷ cs) zero = refl
 one_way_set (x ∷ cs) (suc k) = ap (λ xs. one_way x ∷ xs) (one_way_set cs k)
 
 module _ (vs : List Visit) (cs : List Crossing) (k : ℕ) (there : k < length cs) (untested : Untested cs k) (judged : AllTested vs cs k) where
-  -- a crossing that does not pass stays one_way
+  -- a crossing that does not pass stays one-way
   pub stays : (Passes vs cs k → ⊥) → Untested cs (k + 1) × AllTested vs cs (k + 1)
   stays fails =
       let flag = untested k (omega arith) in (

@@ -1,4 +1,4 @@
-ghost use Rattle.std.specs.Prelude.{◌≡◌, ℕ, ◌<◌, ◌≤◌, map, length, get_or, Decides, slice_index_or, slice_set};
+ghost use Rattle.std.specs.Prelude.{◌≡◌, ℕ, ◌<◌, ◌≤◌, map, length, Decides, slice_index_or, slice_set};
 ghost use Rattle.std.specs.List.{AllByRecursion, range_with_len};
 ghost use Rattle.walk.specs.Edges.{visit};
 ghost use Rattle.walk.specs.Sums.{sum_over, sum_at};
@@ -61,7 +61,7 @@ pub(crate) fn sum_over<K: Kind>(
     requires inside { AllByRecursion (Within (length visits.now)) links.now }
     requires sizes { (length start.now ≡ length visits.now) × (length sums.old ≡ length visits.now) × (length next.old ≡ length visits.now) }
     ensures twins { next.new ≡ sums.new }
-    ensures sums { (v : ℕ) → v < length visits.now → slice_index_or sums.new v K.ops.zero ≡ sum_over K.ops visits.now link_from link_to links.now (λ u. get_or start.now u K.ops.zero) (length visits.now) v }
+    ensures sums { (v : ℕ) → v < length visits.now → slice_index_or sums.new v K.ops.zero ≡ sum_over K.ops visits.now link_from link_to links.now (λ u. slice_index_or start.now u K.ops.zero) (length visits.now) v }
 {
     sums.copy_from_slice(start);
     for _round in 0..visits.len() {

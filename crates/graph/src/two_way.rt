@@ -82,7 +82,7 @@ fn leads(
 }
 
 /// Whether a crossing passes the test: it is a candidate, and no walk leads from its first visit to
-/// the visit after its second over the edges of its test. The crossings from it on are one_way yet.
+/// the visit after its second over the edges of its test. The crossings from it on are one-way yet.
 fn passes(visits: &[Visit], crossings: &[Crossing], tested: usize) -> bool
     requires there { (length visits.now ≤ 512) × (length crossings.now ≤ 1024) × Between (length visits.now) crossings.now }
     requires tested { (tested < length crossings.now) × Untested crossings.now tested }

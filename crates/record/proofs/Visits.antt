@@ -1,5 +1,5 @@
 -- The visits of a path, one entry after another.
-use Rattle.std.proofs.Common.{◌≡◌, ℕ, zero, suc, ◌+◌, ◌-◌, ◌<◌, ◌≤◌, Bool, true, false, cond, not, ◌||◌, eqb, List, [], ◌∷◌, ◌++◌, length, get_or, Some, None, sum_by, count_by, Option, sym, refl, ap, ◌∙◌, arith, MatchOption}
+use Rattle.std.proofs.Common.{◌≡◌, ℕ, zero, suc, ◌+◌, ◌-◌, ◌<◌, ◌≤◌, Bool, true, false, cond, not, ◌||◌, eqb, List, [], ◌∷◌, ◌++◌, length, get_or, Some, None, sum_by, count_by, Option, sym, refl, ap, ◌∙◌, arith, MatchOption, Decides}
 use mir.Val.{bool_byte}
 use Rattle.std.specs.List.{range_with_len}
 use Rattle.std.specs.Option.{option_eq}
@@ -7,6 +7,7 @@ use Rattle.std.proofs.lemmas.List.{length_push, get_or_push, get_or_append_left,
 use Rattle.std.proofs.lemmas.List.FromFn.{length-range_with_len, sum_by-map-range_with_len_more}
 use Rattle.std.proofs.lemmas.List.Sums.{sum_by-cons, count_by-le-length}
 use Rattle.std.proofs.lemmas.Bool.{ne_eqb}
+use Rattle.std.proofs.lemmas.Bool.Decides.{same_from_decides, Decides-eqb}
 use Rattle.record.specs.Steps.{visit_at, visit_count}
 
 abbrev one : Bool → ℕ
@@ -53,9 +54,17 @@ abbrev pub Enters : Option ℕ → ℕ → Bool → Type 0
 Enters o c b = MatchOption o (b ≡ true) (λ before. b ≡ not (eqb before c))
 
 -- what `!=` answers of the last cell and the next
-pub differs : (o : Option ℕ) (c : ℕ) (b : Bool) → b ≡ not (option_eq eqb o (Some c)) → Enters o c b
-differs None c b e = e
-differs (Some before) c b e = e
+pub differs : (o : Option ℕ) (c : ℕ) (x b : Bool) → MatchOption o (x ≡ false) (λ before. Decides x (before ≡ c)) → b ≡ not x → Enters o c b
+differs None c x b h e = e ∙ ap not h
+differs (Some before) c x b h e = e ∙ ap not (same_from_decides x (eqb before c) h (Decides-eqb before c))
+
+-- what `!=` says today of its answer, an equation
+compares : (o : Option ℕ) (c : ℕ) → MatchOption o (option_eq eqb o (Some c) ≡ false) (λ before. Decides (option_eq eqb o (Some c)) (before ≡ c))
+compares None c = refl
+compares (Some before) c = Decides-eqb before c
+
+pub enters_anew : (o : Option ℕ) (c : ℕ) (b : Bool) → b ≡ not (option_eq eqb o (Some c)) → Enters o c b
+enters_anew o c b e = differs o c (option_eq eqb o (Some c)) b (compares o c) e
 
 module _ (r : List ℕ) (c : ℕ) where
   below_same : (k : ℕ) → 0 ≤ k → k < 0 + length r → visit_at (r ++ c ∷ []) k ≡ visit_at r k

@@ -1,6 +1,6 @@
 -- The times of a plan's visits, where no two carriers are in conflict.
 use Rattle.std.proofs.Common.{◌≡◌, ℕ, zero, suc, ◌+◌, ◌-◌, ◌<◌, ◌≤◌, min, true, false, ◌⊎◌, List, length, get_or, filter, sym, refl, ap, ◌∙◌, subst, inl, inr, ⊎_elim, add-zero, arith}
-use Rattle.std.specs.List.{range_with_len, ContainsAt as Has, AllByRecursion as All}
+use Rattle.std.specs.List.{range_with_len, ContainsAt as Has, AllByRecursion}
 use Rattle.std.proofs.ByRecursion.{All-get_or}
 use Rattle.std.proofs.lemmas.Bool.{cases_lt, cases_order, cases_Bool, both_ways, and_parts, and_from, or_parts, or_from, not-true, not-false, not_from_true, eqb-true, eqb-false, eq-eqb, ne_eqb, ltb-true, lt-ltb}
 use Rattle.fault.specs.declared.kinds.Conflict.TheVariants.{Clash, Following}
@@ -54,10 +54,10 @@ module _ (d : Draft) where
   vs = plan_visits d
 
   -- all visits are made
-  all_made : All (Made d) vs
+  all_made : AllByRecursion (Made d) vs
   all_made = all_joined_below (Made d) (carrier_visits d.entries) d.carriers own
     where
-      own : (i : ℕ) → i < d.carriers → All (Made d) (carrier_visits d.entries i)
+      own : (i : ℕ) → i < d.carriers → AllByRecursion (Made d) (carrier_visits d.entries i)
       own i manned =
           all_kept_below (Made d) (visit_of i (r i)) (visit_at (r i)) (length (r i))
           (λ t h e. record { manned = manned; within = h; entered = e; there = refl })
@@ -224,7 +224,7 @@ module _ (d : Draft) (free : ConflictFree d) where
 abbrev Cross : List Visit → Crossing → Type 0
 Cross vs c = (c.first < length vs) × (c.second < length vs) × (crosses vs c.first c.second ≡ true)
 
-all_cross : (vs : List Visit) → All (Cross vs) (plan_crossings vs)
+all_cross : (vs : List Visit) → AllByRecursion (Cross vs) (plan_crossings vs)
 all_cross vs =
     all_joined_below (Cross vs) (crossings_from vs) (length vs)
     (λ u hu. all_kept_below (Cross vs) (crossing_of vs u) (crosses vs u) (length vs) (λ w hw e. (hu, hw, e)))

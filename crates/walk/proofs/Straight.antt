@@ -1,6 +1,6 @@
 -- Walks joined, carried over to other edges, and made straight: such that they pass no visit twice.
 use Rattle.std.proofs.Common.{◌≡◌, ℕ, zero, suc, ◌<◌, ◌≤◌, ◌⊎◌, List, [], ◌∷◌, ◌++◌, length, refl, ◌∙◌, subst, inl, inr, arith}
-use Rattle.std.specs.List.{AllByRecursion as All}
+use Rattle.std.specs.List.{AllByRecursion}
 use Rattle.std.proofs.lemmas.Bool.{cases_eq}
 use Rattle.walk.specs.declared.crossing.Crossing.{Crossing}
 use Rattle.walk.specs.Edges.{Edge, from, to}
@@ -69,19 +69,19 @@ pub straighten :
 straighten cs Is u v w h = straight cs Is u v w h
 
 -- numbers up to n, without n
-below : (n : ℕ) (xs : List ℕ) → All (λ x. x < suc n) xs → (In n xs → ⊥) → All (λ x. x < n) xs
+below : (n : ℕ) (xs : List ℕ) → AllByRecursion (λ x. x < suc n) xs → (In n xs → ⊥) → AllByRecursion (λ x. x < n) xs
 below n [] h m = tt
 below n (x ∷ xs) (h, hs) m = (let k : x ≡ n → ⊥ = λ e. m (inl e) in omega arith, below n xs hs (λ q. m (inr q)))
 
 -- distinct numbers up to n, with n taken out
 record Rest (n : ℕ) (xs : List ℕ) : Type 0 where
   rest : List ℕ
-  under : All (λ x. x < n) rest
+  under : AllByRecursion (λ x. x < n) rest
   apart : Distinct rest
   kept : (x : ℕ) → In x rest → In x xs
   one_less : length xs ≤ suc (length rest)
 
-take_out : (n : ℕ) (xs : List ℕ) → All (λ x. x < suc n) xs → Distinct xs → Rest n xs
+take_out : (n : ℕ) (xs : List ℕ) → AllByRecursion (λ x. x < suc n) xs → Distinct xs → Rest n xs
 take_out n [] h a = record { rest = []; under = tt; apart = tt; kept = λ x m. m; one_less = omega arith }
 take_out n (x ∷ xs) (h, hs) (m, a) = at (cases_eq x n) (take_out n xs hs a)
   where
@@ -98,7 +98,7 @@ take_out n (x ∷ xs) (h, hs) (m, a) = at (cases_eq x n) (take_out n xs hs a)
         }
 
 -- of the numbers below n there are no more than n
-fit : (n : ℕ) (xs : List ℕ) → All (λ x. x < n) xs → Distinct xs → length xs ≤ n
+fit : (n : ℕ) (xs : List ℕ) → AllByRecursion (λ x. x < n) xs → Distinct xs → length xs ≤ n
 fit zero [] h a = omega arith
 fit zero (x ∷ xs) h a = omega arith
 fit (suc n) xs h a = let r = take_out n xs h a in omega (arith, fit n r.rest r.under r.apart, r.one_less)
@@ -108,5 +108,5 @@ length_trail cs v [] = refl
 length_trail cs v (e ∷ w) = omega (arith, length_trail cs (from cs e) w)
 
 -- a walk that passes no visit twice has fewer edges than there are visits
-pub short : (cs : List Crossing) (n v : ℕ) (w : List Edge) → All (λ x. x < n) (trail cs v w) → Distinct (trail cs v w) → length w < n
+pub short : (cs : List Crossing) (n v : ℕ) (w : List Edge) → AllByRecursion (λ x. x < n) (trail cs v w) → Distinct (trail cs v w) → length w < n
 short cs n v w h a = omega (arith, fit n (trail cs v w) h a, length_trail cs v w)

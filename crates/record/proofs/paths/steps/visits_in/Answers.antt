@@ -3,7 +3,7 @@ use Rattle.std.proofs.lemmas.List.{length-take-le, take_all}
 use Rattle.record.specs.Entries.{entry}
 use Rattle.record.specs.Steps.{path, visit_count}
 use Rattle.record.proofs.Steps.{path_le, path_own, path_other}
-use Rattle.record.proofs.Visits.{Last, byte_le, differs, last_more, visits_le, visits_more}
+use Rattle.record.proofs.Visits.{Last, byte_le, enters_anew, last_more, visits_le, visits_more}
 use Rattle.record.proofs.paths.steps.visits_in.Goals as goal
 use Rattle.record.proofs.paths.steps.visits_in.Goals.{then-entry-carrier, else-entry-carrier}
 
@@ -22,7 +22,7 @@ loop-entry-preserved c =
     elim c.if-entry-carrier.branch [
       | then-entry-carrier w ↦
           let own = path_own es k in_list c.args.carrier w.if-entry-carrier.true in
-          let more = visits_more (path (take k es) c.args.carrier) (entry es k).cell _ _ c.loop-entry.invariant.1 (differs _ _ _ w.ne.ensures) in (
+          let more = visits_more (path (take k es) c.args.carrier) (entry es k).cell _ _ c.loop-entry.invariant.1 (enters_anew _ _ _ w.ne.ensures) in (
             w.count-is ∙ (λ i. c.loop-entry.invariant.0 i + w.from-count.ensures i) ∙ sym more ∙ ap visit_count (sym own),
             rw (w.last-is, own) (last_more _ _),
           )
