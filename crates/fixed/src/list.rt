@@ -1,4 +1,4 @@
-ghost use Rattle.std.specs.Prelude.{◌≡◌, ◌≤◌, length};
+ghost use Rattle.std.specs.Prelude.{◌≡◌, ◌≤◌, length, ⊤};
 
 use std::alloc::AllocError;
 
@@ -17,7 +17,7 @@ impl<T: Copy, const N: usize> Copy for Bounded<T, N> {}
 impl<T: Copy, const N: usize> Clone for Bounded<T, N> {
     ghost is_clone = { λ list copy. copy ≡ list };
 
-    ghost is_infallible = { λ _. Unit {0} };
+    ghost is_infallible = { λ _. ⊤ };
 
     fn clone(&self) -> Result<Bounded<T, N>, AllocError> {
         Ok(*self)

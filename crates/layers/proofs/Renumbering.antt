@@ -15,13 +15,14 @@ use Rattle.drive.specs.Refusals.{leaves, departure, destination}
 use Rattle.layers.specs.declared.section.Section.{Section}
 use Rattle.layers.specs.Sections.{restated, part, section, part_places, part_sent, part_reports}
 
--- the numbers of a carrier that is shown are within both lists
+-- a carrier that is shown is one of the first n, and its number below is within the list below
 within : (f n : ℕ) (ps : List Place) (c : ℕ) → c < length (part f n ps) → (c < n) × (f + c < length ps)
 within f n ps c h =
     let e = length-take n (drop f ps) in
     let d = length-drop f ps in
     (omega (arith, e, d), omega (arith, e, d))
 
+-- it is where the drive below has it
 pub part_read : (f n : ℕ) (ps : List Place) (c : ℕ) → c < length (part f n ps) → slice_get (part f n ps) c ≡ slice_get ps (f + c)
 part_read f n ps c h =
     let w = within f n ps c h in
@@ -29,9 +30,11 @@ part_read f n ps c h =
     ∙ ap Some (get_or-take n (drop f ps) c (Standing 0) w.0 ∙ get_or-drop f ps c (Standing 0))
     ∙ sym (slice_get-get_or ps (f + c) (Standing 0) w.1)
 
+-- to put it elsewhere is to put it there below
 pub part_set : (f n : ℕ) (ps : List Place) (c : ℕ) (p : Place) → c < length (part f n ps) → part f n (set ps (f + c) p) ≡ set (part f n ps) c p
 part_set f n ps c p h = ap (take n) (drop-set-add f ps c p) ∙ take-set-lt n (drop f ps) c p (within f n ps c h).0
 
+-- a send, a report and an answer are the same of both numbers, but for the number that a fault names
 pub departs : (o : Option Place) (k c t : ℕ) → restated c (departure o k t) ≡ departure o c t
 departs None k c t = refl
 departs (Some p) k c t = capped (nat_lt t 4096) p
@@ -53,54 +56,62 @@ pub tells : (k c : ℕ) (a : Answer) → restated c (told k a) ≡ told c a
 tells k c There = refl
 tells k c NotYet = refl
 
+-- after an answer all are where they are below
 pub settles : (f n : ℕ) (ps : List Place) (c b : ℕ) (a : Answer) → c < length (part f n ps) → part f n (settled ps (f + c) b a) ≡ settled (part f n ps) c b a
 settles f n ps c b There h = part_set f n ps c (Standing b) h
 settles f n ps c b NotYet h = refl
 
--- what is refused below is refused above, and what is done below is done above
+-- What is refused below is refused above, and what is done below is done above. The drives before and after are d and e below,
+-- s and t above.
 pub passes_on :
-    {D E : Type 0} (x : Result ℕ DriveFault) (c : ℕ) (Below : ℕ → Result Unit DriveFault → D → Type 0) (Above : ℕ → Result Unit DriveFault → E → Type 0) (d e : D) (above after : E) (r : Result Unit DriveFault)
-    → (e ≡ d → after ≡ above)
-    → ((a : ℕ) → Below a r e → Above a (restated c r) after)
+    {D E : Type 0} (x : Result ℕ DriveFault) (c : ℕ) (Below : ℕ → Result Unit DriveFault → D → Type 0) (Above : ℕ → Result Unit DriveFault → E → Type 0) (d e : D) (s t : E) (r : Result Unit DriveFault)
+    → (e ≡ d → t ≡ s)
+    → ((a : ℕ) → Below a r e → Above a (restated c r) t)
     → RefusedOr x Below d r e
-    → RefusedOr (restated c x) Above above (restated c r) after
-passes_on (Err f) c Below Above d e above after r kept done (told, same) = (ap (restated c) told, kept same)
-passes_on (Ok a) c Below Above d e above after r kept done h = done a h
+    → RefusedOr (restated c x) Above s (restated c r) t
+passes_on (Err f) c Below Above d e s t r kept done (refused, same) = (ap (restated c) refused, kept same)
+passes_on (Ok a) c Below Above d e s t r kept done h = done a h
 
 module _ {D : Type 0} (meaning : D → List Place) (s : Section D) (c : ℕ) (shown : c < length (part_places meaning s)) where
+  -- the section of a drive, and the carrier's number in the drive
   abbrev over : D → Section D
   over d = section d s.first s.most
 
-  abbrev place_above : slice_get (meaning s.inner) (s.first + c) ≡ slice_get (part_places meaning s) c
-  place_above = sym (part_read s.first s.most (meaning s.inner) c shown)
+  abbrev k : ℕ
+  k = s.first + c
 
-  pub sends : (sent : D → ℕ → ℕ → D) (t : ℕ) (r : Result Unit DriveFault) (e : D) → Sent meaning sent s.inner (s.first + c) t r e → Sent (part_places meaning) (part_sent sent) s c t (restated c r) (over e)
+  place_below : slice_get (meaning s.inner) k ≡ slice_get (part_places meaning s) c
+  place_below = sym (part_read s.first s.most (meaning s.inner) c shown)
+
+  -- a send below is one of the section
+  pub sends : (sent : D → ℕ → ℕ → D) (t : ℕ) (r : Result Unit DriveFault) (e : D) → Sent meaning sent s.inner k t r e → Sent (part_places meaning) (part_sent sent) s c t (restated c r) (over e)
   sends sent t r e below =
-      subst (λ x. RefusedOr x Above s (restated c r) (over e)) (departs (slice_get (meaning s.inner) (s.first + c)) (s.first + c) c t ∙ ap (λ o. departure o c t) place_above)
-      (passes_on (departure (slice_get (meaning s.inner) (s.first + c)) (s.first + c) t) c Below Above s.inner e s (over e) r (ap over) (λ a (told, is, at). (
-        ap (restated c) told,
+      subst (λ x. RefusedOr x Above s (restated c r) (over e)) (departs (slice_get (meaning s.inner) k) k c t ∙ ap (λ o. departure o c t) place_below)
+      (passes_on (departure (slice_get (meaning s.inner) k) k t) c Below Above s.inner e s (over e) r (ap over) (λ a (fine, is, at). (
+        ap (restated c) fine,
         ap over is,
         ap (part s.first s.most) at ∙ part_set s.first s.most (meaning s.inner) c (Going a t) shown,
       )) below)
     where
       Below : ℕ → Result Unit DriveFault → D → Type 0
-      Below a x y = (x ≡ Ok tt) × (y ≡ sent s.inner (s.first + c) t) × (meaning y ≡ set (meaning s.inner) (s.first + c) (Going a t))
+      Below a x y = (x ≡ Ok tt) × (y ≡ sent s.inner k t) × (meaning y ≡ set (meaning s.inner) k (Going a t))
 
       Above : ℕ → Result Unit DriveFault → Section D → Type 0
       Above a x y = (x ≡ Ok tt) × (y ≡ part_sent sent s c t) × (part_places meaning y ≡ set (part_places meaning s) c (Going a t))
 
-  pub answers : (reports : D → ℕ → Answer → D → Type 0) (r : Result Unit DriveFault) (e : D) → Reported meaning reports s.inner (s.first + c) r e → Reported (part_places meaning) (part_reports reports) s c (restated c r) (over e)
+  -- and so is a report
+  pub answers : (reports : D → ℕ → Answer → D → Type 0) (r : Result Unit DriveFault) (e : D) → Reported meaning reports s.inner k r e → Reported (part_places meaning) (part_reports reports) s c (restated c r) (over e)
   answers reports r e below =
-      subst (λ x. RefusedOr x Above s (restated c r) (over e)) (arrives (slice_get (meaning s.inner) (s.first + c)) (s.first + c) c ∙ ap (λ o. destination o c) place_above)
-      (passes_on (destination (slice_get (meaning s.inner) (s.first + c)) (s.first + c)) c Below Above s.inner e s (over e) r (ap over) (λ b (a, told, rule, at). (
+      subst (λ x. RefusedOr x Above s (restated c r) (over e)) (arrives (slice_get (meaning s.inner) k) k c ∙ ap (λ o. destination o c) place_below)
+      (passes_on (destination (slice_get (meaning s.inner) k) k) c Below Above s.inner e s (over e) r (ap over) (λ b (a, is, rule, at). (
         a,
-        ap (restated c) told ∙ tells (s.first + c) c a,
+        ap (restated c) is ∙ tells k c a,
         (rule, refl, refl),
         ap (part s.first s.most) at ∙ settles s.first s.most (meaning s.inner) c b a shown,
       )) below)
     where
       Below : ℕ → Result Unit DriveFault → D → Type 0
-      Below b x y = (a : Answer) × (x ≡ told (s.first + c) a) × reports s.inner (s.first + c) a y × (meaning y ≡ settled (meaning s.inner) (s.first + c) b a)
+      Below b x y = (a : Answer) × (x ≡ told k a) × reports s.inner k a y × (meaning y ≡ settled (meaning s.inner) k b a)
 
       Above : ℕ → Result Unit DriveFault → Section D → Type 0
       Above b x y = (a : Answer) × (x ≡ told c a) × part_reports reports s c a y × (part_places meaning y ≡ settled (part_places meaning s) c b a)

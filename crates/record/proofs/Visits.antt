@@ -53,16 +53,17 @@ visits_le r = omega (arith, count_by-le-length (visit_at r) (range_with_len 0 (l
 abbrev pub Enters : Option ℕ → ℕ → Bool → Type 0
 Enters o c b = MatchOption o (b ≡ true) (λ before. b ≡ not (eqb before c))
 
--- what `!=` answers of the last cell and the next
+-- a test of whether the last cell is the next one decides whether that is entered
 pub differs : (o : Option ℕ) (c : ℕ) (x b : Bool) → MatchOption o (x ≡ false) (λ before. Decides x (before ≡ c)) → b ≡ not x → Enters o c b
 differs None c x b h e = e ∙ ap not h
 differs (Some before) c x b h e = e ∙ ap not (same_from_decides x (eqb before c) h (Decides-eqb before c))
 
--- what `!=` says today of its answer, an equation
+-- `option_eq` is such a test
 compares : (o : Option ℕ) (c : ℕ) → MatchOption o (option_eq eqb o (Some c) ≡ false) (λ before. Decides (option_eq eqb o (Some c)) (before ≡ c))
 compares None c = refl
 compares (Some before) c = Decides-eqb before c
 
+-- what `!=` answers of the last cell and the next
 pub enters_anew : (o : Option ℕ) (c : ℕ) (b : Bool) → b ≡ not (option_eq eqb o (Some c)) → Enters o c b
 enters_anew o c b e = differs o c (option_eq eqb o (Some c)) b (compares o c) e
 

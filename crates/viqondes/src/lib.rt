@@ -1,4 +1,4 @@
-//! The library's calls as C makes them; viqondes_c exports each under its symbol.
+//! The call for C, as a function; viqondes_c exports it under its symbol.
 #![tactic(auto)]
 
 ghost use Rattle.std.specs.Prelude.{◌≡◌};

@@ -153,8 +153,8 @@ module _ (d : Draft) where
         ap (λ k. get_or own k 0) e ∙ stays_in_path n (omega arith) (λ next. omega (arith, until next))
 
 -- what it is to cross
-cross_parts : (es : List Visit) (u w : ℕ) → crosses es u w ≡ true → ((visit es u).carrier ≡ (visit es w).carrier → ⊥) × ((visit es u).cell ≡ (visit es w).cell) × ((visit es u).step < (visit es w).step)
-cross_parts es u w e =
+cross_parts : (xs : List Visit) (u w : ℕ) → crosses xs u w ≡ true → ((visit xs u).carrier ≡ (visit xs w).carrier → ⊥) × ((visit xs u).cell ≡ (visit xs w).cell) × ((visit xs u).step < (visit xs w).step)
+cross_parts xs u w e =
     let (other, rest) = and_parts _ _ e in
     let (same, sooner) = and_parts _ _ rest in
     (eqb-false _ _ (not-true _ other), eqb-true _ _ same, ltb-true _ _ sooner)

@@ -1,10 +1,10 @@
 -- Unions of sets of carriers, as bits.
-use Rattle.std.specs.Prelude.{◌≡◌, ℕ, zero, suc, ◌+◌, ◌*◌, ◌/◌, ◌%◌, ◌<◌, cond, ◌≢◌, bit_or, refl}
-use Rattle.std.proofs.Common.{sym, ap, ◌∙◌, mod-lt, div-add-mod', le_of_suc-le-suc, not-suc-le-zero, zero-lt-suc, arith, ne_eqb}
+use Rattle.std.specs.Prelude.{◌≡◌, ℕ, zero, suc, ◌+◌, ◌*◌, ◌/◌, ◌%◌, ◌<◌, ◌≤◌, cond, ◌≢◌, bit_or, refl}
+use Rattle.std.proofs.Common.{sym, ap, ◌∙◌, mod-lt, div-add-mod', le_of_suc-le-suc, not-suc-le-zero, zero-lt-suc, subst, ne_eqb}
 use Rattle.std.proofs.Math.Arith.{bin_ind}
 use Rattle.std.proofs.Math.Dec.{eqb-suc-zero}
-use Rattle.std.proofs.lemmas.Nat.{or_shr, or_mod, or_comm, and_le_r}
-use Rattle.std.specs.Int.Bits.{or_self, or_zero_r, or_add_and}
+use Rattle.std.proofs.lemmas.Nat.{or_shr, or_mod, or_comm, le_or_l}
+use Rattle.std.specs.Int.Bits.{or_self, or_zero_r}
 use Rattle.walk.specs.Kinds.{carrier_bit, with_carrier}
 
 by_digits : {a b : ℕ} → a / 2 ≡ b / 2 → a % 2 ≡ b % 2 → a ≡ b
@@ -34,7 +34,7 @@ or_spread a b m =
     ∙ sym (or_assoc a m (bit_or b m))
 
 or_some : (a b : ℕ) → bit_or (suc a) b ≢ 0
-or_some a b e = omega (arith, or_add_and (suc a) b, and_le_r (suc a) b)
+or_some a b e = not-suc-le-zero (subst (λ (n : ℕ). suc a ≤ n) e (le_or_l (suc a) b))
 
 some_with : (a c : ℕ) → with_carrier (suc a) c ≡ bit_or (suc a) (carrier_bit c)
 some_with a c = ap (λ t. cond t 0 (bit_or (suc a) (carrier_bit c))) (eqb-suc-zero a)
