@@ -8,7 +8,7 @@ fn push_word(bytes: &mut Vec<u8>, word: u16) -> Result<(), AllocError> {
 }
 
 /// The bytes of a record: the header, the carrier numbers, the cells.
-pub fn record(
+pub(crate) fn record(
     heap: Global,
     header: [u16; 4],
     carriers: &[u8],
