@@ -133,13 +133,13 @@ fn faults_of_graphs_have_their_numbers(rt: HostRuntime) {
         layer: Layer::Graph,
         places: [0, 0, 0],
     };
-    assert_eq!(rt; GraphFault::Crossings.report(), crowded);
+    assert_eq!(rt; Report::from(GraphFault::Crossings), crowded);
     let short = Report {
         number: 24,
         layer: Layer::Graph,
         places: [7, 0, 0],
     };
-    assert_eq!(rt; RoomFault { needed: 7 }.report(), short);
+    assert_eq!(rt; Report::from(RoomFault { needed: 7 }), short);
 }
 
 #[test]

@@ -1,4 +1,5 @@
 use crate::records::record;
+use fault::report::Report;
 use listing::list;
 use plan::accepted::Plan;
 use std::alloc::{AllocError, Global};
@@ -374,9 +375,6 @@ fn entries_end_at_512(rt: HostRuntime) -> Result<(), Fail> {
 
 #[test]
 fn a_record_alone_has_its_own_length(rt: HostRuntime) {
-    let numbered = match Plan::read(&[1, 0, 1, 0, 1, 0, 1, 0, 0, 0, 0, 128]) {
-        Ok(_) => 0,
-        Err(fault) => fault.number(),
-    };
-    assert_eq!(rt; numbered, 3);
+    let fault = Plan::read(&[1, 0, 1, 0, 1, 0, 1, 0, 0, 0, 0, 128]).err();
+    assert_eq!(rt; fault.map_or(0, |fault| Report::from(fault).number), 3);
 }

@@ -25,12 +25,12 @@ pub struct Report {
     pub places: [u16; 3],
 }
 
-impl Field {
-    /// Which of the header's numbers it is, from 0.
-    pub fn place(self) -> u16
-        ensures { result ≡ place_of self }
-    {
-        match self {
+/// Which of the header's numbers it is, from 0.
+impl From<Field> for u16 {
+    ghost from_gives = { λ f n. n ≡ place_of f };
+
+    fn from(field: Field) -> u16 {
+        match field {
             Field::Width => 0,
             Field::Height => 1,
             Field::Carriers => 2,
@@ -51,17 +51,16 @@ impl Report {
     }
 }
 
-impl PlanFault {
-    /// What others are told of the fault.
-    pub fn report(&self) -> Report
-        ensures { result ≡ report_of self.now }
-    {
-        match *self {
+impl From<PlanFault> for Report {
+    ghost from_gives = { λ f r. r ≡ report_of f };
+
+    fn from(fault: PlanFault) -> Report {
+        match fault {
             PlanFault::Entry(EntryFault::Record(RecordFault::Short)) => {
                 Report::new(1, Layer::Record, [0, 0, 0])
             }
             PlanFault::Entry(EntryFault::Record(RecordFault::Header(field))) => {
-                Report::new(2, Layer::Record, [field.place(), 0, 0])
+                Report::new(2, Layer::Record, [field.into(), 0, 0])
             }
             PlanFault::Entry(EntryFault::Record(RecordFault::Length)) => {
                 Report::new(3, Layer::Record, [0, 0, 0])
@@ -84,67 +83,40 @@ impl PlanFault {
             }
         }
     }
-
-    pub fn number(&self) -> u8
-        ensures { result ≡ (report_of self.now).number }
-    {
-        self.report().number
-    }
-
-    pub fn layer(&self) -> Layer
-        ensures { result ≡ (report_of self.now).layer }
-    {
-        self.report().layer
-    }
-
-    pub fn places(&self) -> [u16; 3]
-        ensures { result ≡ (report_of self.now).places }
-    {
-        self.report().places
-    }
 }
 
-impl GraphFault {
-    /// What others are told of the fault: of a plan's fault what they are told of that.
-    pub fn report(&self) -> Report
-        ensures { result ≡ graph_report self.now }
-    {
-        match self {
-            GraphFault::Plan(fault) => fault.report(),
+/// Of a plan's fault what is told of that.
+impl From<GraphFault> for Report {
+    ghost from_gives = { λ f r. r ≡ graph_report f };
+
+    fn from(fault: GraphFault) -> Report {
+        match fault {
+            GraphFault::Plan(fault) => fault.into(),
             GraphFault::Crossings => Report::new(9, Layer::Graph, [0, 0, 0]),
         }
     }
 }
 
-impl RoomFault {
-    /// What others are told of the fault.
-    pub fn report(&self) -> Report
-        ensures { result ≡ room_report self.now }
-    {
-        Report::new(24, Layer::Graph, [self.needed, 0, 0])
+impl From<RoomFault> for Report {
+    ghost from_gives = { λ f r. r ≡ room_report f };
+
+    fn from(fault: RoomFault) -> Report {
+        Report::new(24, Layer::Graph, [fault.needed, 0, 0])
     }
 }
 
-impl DriveFault {
-    /// What others are told of the fault.
-    pub fn report(&self) -> Report
-        ensures { result ≡ drive_report self.now }
-    {
-        match *self {
-            DriveFault::NotThere(carrier) => {
-                Report::new(17, Layer::Drive, [u16::from(carrier), 0, 0])
-            }
-            DriveFault::NoCarrier(carrier) => {
-                Report::new(20, Layer::Drive, [u16::from(carrier), 0, 0])
-            }
-            DriveFault::AlreadyGoing(carrier) => {
-                Report::new(21, Layer::Drive, [u16::from(carrier), 0, 0])
-            }
-            DriveFault::NotGoing(carrier) => {
-                Report::new(22, Layer::Drive, [u16::from(carrier), 0, 0])
-            }
-            DriveFault::NoCell(cell) => Report::new(23, Layer::Drive, [cell, 0, 0]),
-        }
+impl From<DriveFault> for Report {
+    ghost from_gives = { λ f r. r ≡ drive_report f };
+
+    fn from(fault: DriveFault) -> Report {
+        let (number, place) = match fault {
+            DriveFault::NotThere(carrier) => (17, u16::from(carrier)),
+            DriveFault::NoCarrier(carrier) => (20, u16::from(carrier)),
+            DriveFault::AlreadyGoing(carrier) => (21, u16::from(carrier)),
+            DriveFault::NotGoing(carrier) => (22, u16::from(carrier)),
+            DriveFault::NoCell(cell) => (23, cell),
+        };
+        Report::new(number, Layer::Drive, [place, 0, 0])
     }
 }
 
@@ -152,13 +124,13 @@ impl fmt::Display for Layer {
     ghost output = { λ l. Some (layer_text l) };
 
     fn fmt<W: fmt::Write>(&self, f: &mut fmt::Formatter<W>) -> fmt::Result {
-        match self {
-            Layer::Record => f.write_str("record"),
-            Layer::Entry => f.write_str("entry"),
-            Layer::Plan => f.write_str("plan"),
-            Layer::Graph => f.write_str("graph"),
-            Layer::Drive => f.write_str("drive"),
-        }
+        f.write_str(match self {
+            Layer::Record => "record",
+            Layer::Entry => "entry",
+            Layer::Plan => "plan",
+            Layer::Graph => "graph",
+            Layer::Drive => "drive",
+        })
     }
 }
 
@@ -166,9 +138,7 @@ impl fmt::Display for Report {
     ghost output = { λ r. Some (report_text r) };
 
     fn fmt<W: fmt::Write>(&self, f: &mut fmt::Formatter<W>) -> fmt::Result {
-        let number = self.number;
-        let layer = self.layer;
         let [a, b, c] = self.places;
-        write!(f, "{number} {layer} {a} {b} {c}")
+        write!(f, "{} {} {a} {b} {c}", self.number, self.layer)
     }
 }

@@ -41,7 +41,7 @@ fn settle<K: Kind>(values: &mut [K], next: &[K]) -> bool
 {
     let mut quiet = true;
     for i in 0..next.len() {
-        if !values[i].same(next[i]) {
+        if values[i] != next[i] {
             quiet = false;
         }
     }

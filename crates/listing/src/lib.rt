@@ -9,6 +9,7 @@ ghost use Rattle.graph.specs.Verdicts.{graph_draft, graph_visits, graph_crossing
 ghost use Rattle.listing.specs.Texts.{plan_line, carrier_line, way_text, crossing_line, refusal_line, graph_text, Listed};
 
 use fault::kinds::GraphFault;
+use fault::report::Report;
 use graph::graph::Graph;
 use record::layout::split_record;
 use std::alloc::{AllocError, Global};
@@ -53,7 +54,7 @@ fn crossing_line(heap: Global, number: usize, crossing: Crossing) -> Result<Stri
 fn refusal_line(heap: Global, fault: GraphFault) -> Result<String, AllocError>
     ensures { IfOk result (λ s. string_bytes s ≡ refusal_line fault) }
 {
-    let report = fault.report();
+    let report = Report::from(fault);
     format!(in heap; "refused {report}\n")
 }
 

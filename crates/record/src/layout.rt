@@ -26,7 +26,7 @@ fn stated(bytes: &[u8], field: Field) -> u16
     requires { 8 ≤ length bytes.now }
     ensures { result ≡ header bytes.now field }
 {
-    word(bytes, 2 * field.place() as usize)
+    word(bytes, 2 * usize::from(u16::from(field)))
 }
 
 /// A number of the header, if it is in its range.

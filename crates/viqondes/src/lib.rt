@@ -5,15 +5,13 @@ ghost use Rattle.std.specs.Prelude.{◌≡◌};
 ghost use Rattle.viqondes.specs.Numbers.{answer_number, FaultNumber};
 
 use fault::kinds::GraphFault;
+use fault::report::Report;
 use graph::graph::Graph;
 
 fn number(answer: Result<(), GraphFault>) -> u8
     ensures { result ≡ answer_number answer }
 {
-    match answer {
-        Ok(()) => 0,
-        Err(fault) => fault.report().number,
-    }
+    answer.map_or_else(|fault| Report::from(fault).number, |()| 0)
 }
 
 /// The number of the fault of a plan record or of its graph, or 0 where there is none.

@@ -5,7 +5,7 @@ ghost use Rattle.visit.specs.Crossings.{crosses, crossing_of, crossings_from, pl
 use fixed::list::Bounded;
 use fixed::list::methods::Full;
 use record::MAX_ENTRIES;
-use walk::crossing::{Crossing, MAX_CROSSINGS, NO_CROSSING};
+use walk::crossing::{Crossing, MAX_CROSSINGS};
 use walk::visit::Visit;
 
 /// Whether two visits cross, `first` being the earlier in the plan.
@@ -54,7 +54,7 @@ pub fn crossings_of(
     ensures { MatchResult result (λ found. (items found ≡ plan_crossings (items visits.now)) × (length (items found) ≤ 1024)) (λ _. 1024 < length (plan_crossings (items visits.now))) }
 {
     let visits = visits.as_slice();
-    let mut crossings = Bounded::new(NO_CROSSING);
+    let mut crossings = Bounded::new(Crossing::default());
     for first in 0..visits.len() {
         add_crossings(visits, first, &mut crossings)?;
     }

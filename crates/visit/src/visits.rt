@@ -7,7 +7,7 @@ use fixed::list::Bounded;
 use record::MAX_ENTRIES;
 use record::entry::Entry;
 use record::paths::Paths;
-use walk::visit::{NO_VISIT, Visit};
+use walk::visit::Visit;
 
 /// Adds a carrier's visits.
 fn add_visits(entries: &[Entry], carrier: u8, visits: &mut Bounded<Visit, MAX_ENTRIES>)
@@ -37,7 +37,7 @@ fn add_visits(entries: &[Entry], carrier: u8, visits: &mut Bounded<Visit, MAX_EN
 pub fn visits_of(paths: &Paths) -> Bounded<Visit, MAX_ENTRIES>
     ensures { items result ≡ plan_visits (paths_draft paths.now) }
 {
-    let mut visits = Bounded::new(NO_VISIT);
+    let mut visits = Bounded::new(Visit::default());
     for carrier in 0..paths.header().carriers {
         add_visits(paths.entries(), carrier, &mut visits);
     }

@@ -3,7 +3,7 @@ pub const MAX_CROSSINGS: usize = 1024;
 
 /// A crossing: two visits of different carriers in one cell. In the plan the first comes earlier;
 /// where the crossing is two-way, the carriers may pass in either order.
-#[derive(Clone, Copy, PartialEq, Eq, Debug)]
+#[derive(Clone, Copy, PartialEq, Eq, Debug, Default)]
 pub struct Crossing {
     pub cell: u16,
     pub first: u16,
@@ -11,17 +11,9 @@ pub struct Crossing {
     pub two_way: bool,
 }
 
-/// What stands in a list where there is no crossing.
-pub const NO_CROSSING: Crossing = Crossing {
-    cell: 0,
-    first: 0,
-    second: 0,
-    two_way: false,
-};
-
 /// Which of a crossing's two edges are taken: the plan edge, from the visit after its first to its
 /// second; the reversed edge, from the visit after its second to its first.
-#[derive(Clone, Copy, PartialEq, Eq, Debug)]
+#[derive(Clone, Copy, PartialEq, Eq, Debug, Default)]
 pub struct Ways {
     pub plan: bool,
     pub reversed: bool,

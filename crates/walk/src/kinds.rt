@@ -1,4 +1,4 @@
-ghost use Rattle.std.specs.Prelude.{◌≡◌, Decides};
+ghost use Rattle.std.specs.Prelude.{◌≡◌, ◌↔◌, IsTrue};
 ghost use Rattle.walk.specs.declared.visit.Visit.{Visit};
 ghost use Rattle.walk.specs.Values.{Operations, Laws, Idempotent};
 
@@ -9,7 +9,7 @@ pub mod marks;
 pub mod steps;
 
 /// A kind of value that is carried along walks and joined where they meet.
-pub trait Kind: Copy {
+pub trait Kind: Copy + Eq {
     ghost ops: { Operations Self };
 
     /// The value that stands for nothing.
@@ -23,12 +23,12 @@ pub trait Kind: Copy {
     fn step(self, visit: Visit) -> Self
         ensures { result ≡ ops.step self visit };
 
-    fn same(self, other: Self) -> bool
-        ensures { Decides result (self ≡ other) };
-
     ghost laws: { Laws ops };
 
     ghost idempotent: { Idempotent ops };
+
+    // `==` holds of a value and itself alone
+    ghost exact: { (x y : Self) → IsTrue (Self.eq x y) ↔ (x ≡ y) };
 }
 
 /// A kind whose values start on each carrier's first visit.
@@ -47,13 +47,13 @@ pub struct Mark {
 }
 
 /// The earliest step at which a visit can come, if it is reached.
-#[derive(Clone, Copy, PartialEq, Eq, Debug)]
+#[derive(Clone, Copy, PartialEq, Eq, PartialOrd, Ord, Debug)]
 pub struct Earliest {
     pub step: Option<u16>,
 }
 
 /// The carriers that have a part in reaching a visit, a bit for each.
-#[derive(Clone, Copy, PartialEq, Eq, Debug)]
+#[derive(Clone, Copy, PartialEq, Eq, Debug, Default)]
 pub struct CarrierSet {
     pub bits: u16,
 }

@@ -22,8 +22,7 @@ impl<T: Copy, const N: usize> Bounded<T, N> {
     pub fn as_slice(&self) -> &[T]
         ensures { result.now ≡ items self.now }
     {
-        let slots = &self.slots[..];
-        &slots[0..self.count]
+        &self.slots[..self.count]
     }
 
     /// Adds an item at the end.

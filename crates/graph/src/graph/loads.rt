@@ -14,8 +14,8 @@ use fixed::list::Bounded;
 use plan::accepted::Plan;
 use visit::crossings::crossings_of;
 use visit::visits::visits_of;
-use walk::crossing::NO_CROSSING;
-use walk::visit::NO_VISIT;
+use walk::crossing::Crossing;
+use walk::visit::Visit;
 
 /// The graph of a plan, unless it has too many crossings.
 fn build(plan: Plan) -> Result<Graph, GraphFault>
@@ -58,8 +58,8 @@ impl Graph {
     {
         Graph {
             plan: None,
-            visits: Bounded::new(NO_VISIT),
-            crossings: Bounded::new(NO_CROSSING),
+            visits: Bounded::new(Visit::default()),
+            crossings: Bounded::new(Crossing::default()),
         }
     }
 

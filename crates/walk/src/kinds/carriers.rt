@@ -1,5 +1,5 @@
 ghost use Rattle.std.specs.Prelude.{◌≡◌, refl};
-ghost use Rattle.std.proofs.Common.{ap};
+ghost use Rattle.std.proofs.Common.{ap, rules};
 ghost use Rattle.walk.specs.Kinds.{sets, own_carrier, carrier_bit, carrier_set};
 ghost use Rattle.std.proofs.lemmas.Nat.{or_comm};
 ghost use Rattle.std.specs.Int.Bits.{or_self};
@@ -12,7 +12,7 @@ use crate::visit::Visit;
 fn bit(carrier: u8) -> u16
     ensures { result ≡ carrier_bit carrier }
 {
-    if carrier < 16 { 1 << carrier } else { 0 }
+    1u16.checked_shl(u32::from(carrier)).unwrap_or(0)
 }
 
 impl Kind for CarrierSet {
@@ -28,8 +28,10 @@ impl Kind for CarrierSet {
 
     ghost idempotent = { λ x. ap carrier_set (or_self x.bits) };
 
+    ghost exact = { Prim.search rules };
+
     fn zero() -> CarrierSet {
-        CarrierSet { bits: 0 }
+        CarrierSet::default()
     }
 
     fn join(self, other: CarrierSet) -> CarrierSet {
@@ -46,10 +48,6 @@ impl Kind for CarrierSet {
                 bits: self.bits | bit(visit.carrier),
             }
         }
-    }
-
-    fn same(self, other: CarrierSet) -> bool {
-        self.bits == other.bits
     }
 }
 

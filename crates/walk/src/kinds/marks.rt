@@ -11,6 +11,8 @@ impl Kind for Mark {
 
     ghost idempotent = { Prim.search rules };
 
+    ghost exact = { Prim.search rules };
+
     fn zero() -> Mark {
         Mark { set: false }
     }
@@ -23,9 +25,5 @@ impl Kind for Mark {
 
     fn step(self, _visit: Visit) -> Mark {
         self
-    }
-
-    fn same(self, other: Mark) -> bool {
-        self.set == other.set
     }
 }

@@ -11,31 +11,20 @@ impl Kind for Earliest {
 
     ghost idempotent = { Prim.search rules };
 
+    ghost exact = { Prim.search rules };
+
     fn zero() -> Earliest {
         Earliest { step: None }
     }
 
     fn join(self, other: Earliest) -> Earliest {
-        match (self.step, other.step) {
-            (None, _) => other,
-            (Some(_), None) => self,
-            (Some(a), Some(b)) => Earliest {
-                step: Some(a.max(b)),
-            },
-        }
+        self.max(other)
     }
 
     fn step(self, _visit: Visit) -> Earliest {
-        match self.step {
-            None => self,
-            Some(a) => Earliest {
-                step: Some(a.saturating_add(1)),
-            },
+        Earliest {
+            step: self.step.map(|step| step.saturating_add(1)),
         }
-    }
-
-    fn same(self, other: Earliest) -> bool {
-        self.step == other.step
     }
 }
 
