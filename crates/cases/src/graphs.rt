@@ -27,28 +27,18 @@ fn crowd(heap: Global, more: bool) -> Result<Vec<u8>, AllocError> {
     let mut carriers = Vec::new(heap);
     let mut cells = Vec::new(heap);
     for _ in 0..32 {
-        for cell in [1u16, 0, 0, 0] {
-            carriers.push(0)?;
-            cells.push(cell)?;
-        }
+        carriers.extend_from_slice(&[0; 4])?;
+        cells.extend_from_slice(&[1, 0, 0, 0])?;
     }
     for _ in 0..32 {
-        for cell in [2u16, 2, 1, 2] {
-            carriers.push(1)?;
-            cells.push(cell)?;
-        }
+        carriers.extend_from_slice(&[1; 4])?;
+        cells.extend_from_slice(&[2, 2, 1, 2])?;
     }
     let mut header = [3, 4, 2, 256];
     if more {
         header = [3, 4, 4, 263];
-        for cell in [6u16, 7, 8] {
-            carriers.push(2)?;
-            cells.push(cell)?;
-        }
-        for cell in [10u16, 10, 10, 7] {
-            carriers.push(3)?;
-            cells.push(cell)?;
-        }
+        carriers.extend_from_slice(&[2, 2, 2, 3, 3, 3, 3])?;
+        cells.extend_from_slice(&[6, 7, 8, 10, 10, 10, 7])?;
     }
     record(heap, header, carriers.as_slice(), cells.as_slice())
 }

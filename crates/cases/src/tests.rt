@@ -345,12 +345,8 @@ fn bytes_without_a_header_are_refused(rt: HostRuntime) -> Result<(), Fail> {
 
 /// What floorlist prints for one carrier that waits in one cell.
 fn waiting(heap: Global, entries: u16) -> Result<String, AllocError> {
-    let mut carriers = Vec::new(heap);
-    let mut cells = Vec::new(heap);
-    for _ in 0..entries {
-        carriers.push(0)?;
-        cells.push(0)?;
-    }
+    let carriers = vec![in heap; 0; usize::from(entries)]?;
+    let cells = vec![in heap; 0; usize::from(entries)]?;
     let bytes = record(
         heap,
         [1, 1, 1, entries],
