@@ -26,11 +26,7 @@ impl<D: Drive> Section<D> {
     pub fn into_inner(self) -> D
         ensures { result ≡ self.inner }
     {
-        let Section {
-            inner,
-            first: _,
-            most: _,
-        } = self;
+        let Section { inner, .. } = self;
         inner
     }
 
@@ -59,10 +55,7 @@ impl<D: Drive> Section<D> {
 fn restated<T>(answer: Result<T, DriveFault>, carrier: u8) -> Result<T, DriveFault>
     ensures { result ≡ restated carrier answer }
 {
-    match answer {
-        Ok(value) => Ok(value),
-        Err(fault) => Err(fault.renumbered(carrier)),
-    }
+    answer.map_err(|fault| fault.renumbered(carrier))
 }
 
 impl<D: Drive> Drive for Section<D> {
