@@ -3,7 +3,7 @@ use Rattle.std.specs.Prelude.{◌≡◌, ℕ, List, Some, None, Option, Result, 
 use Rattle.std.specs.List.{slice_get}
 use Rattle.fault.specs.declared.kinds.DriveFault.{DriveFault}
 use Rattle.drive.specs.declared.place.Answer.{Answer}
-use Rattle.drive.specs.declared.place.Answer.TheVariants.{There, NotYet}
+use Rattle.drive.specs.declared.place.Answer.TheVariants.{There}
 use Rattle.drive.specs.declared.place.Place.{Place}
 use Rattle.drive.specs.declared.place.Place.TheVariants.{Standing, Going}
 use Rattle.drive.specs.Calls.{told, settled, RefusedOr}
@@ -24,14 +24,13 @@ target (Some (Going a b)) = b
 abbrev pub gone : List Place → ℕ → ℕ → List Place
 gone ps c t = slice_set ps c (Going (source (slice_get ps c)) t)
 
--- carrier c is there
-abbrev pub come : List Place → ℕ → List Place
-come ps c = slice_set ps c (Standing (target (slice_get ps c)))
-
 -- a report on carrier c is answered
 abbrev pub answered : List Place → ℕ → Answer → List Place
-answered ps c There = come ps c
-answered ps c NotYet = ps
+answered ps c = settled ps c (target (slice_get ps c))
+
+-- carrier c is there
+abbrev pub come : List Place → ℕ → List Place
+come ps c = answered ps c There
 
 abbrev pub Answered : List Place → ℕ → Answer → Result Unit DriveFault → List Place → Type 0
 Answered ps c a r qs =
