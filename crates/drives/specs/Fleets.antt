@@ -32,6 +32,7 @@ answered ps c = settled ps c (target (slice_get ps c))
 abbrev pub come : List Place → ℕ → List Place
 come ps c = answered ps c There
 
+-- a report on carrier c that is given the answer a, if it is not refused
 abbrev pub Answered : List Place → ℕ → Answer → Result Unit DriveFault → List Place → Type 0
 Answered ps c a r qs =
     RefusedOr (destination (slice_get ps c) c) (λ b x y. (x ≡ told c a) × (y ≡ answered ps c a) × (y ≡ settled ps c b a)) ps r qs

@@ -19,7 +19,7 @@ abbrev pub bench_reports : HoldBack (List Place) → ℕ → Answer → HoldBack
 bench_reports b c a e =
     MatchBool (held_up b.hold_ups c) ((a ≡ NotYet) × (e ≡ hold_back b.inner (counted b.hold_ups c))) ((a ≡ There) × (e ≡ hold_back (come b.inner c) b.hold_ups))
 
--- So the hold-back layer over a fleet sends and reports, where the fleet's own rule is always "there".
+-- This is how the hold-back layer over a fleet sends and reports: the rule of the fleet itself is always "there".
 pub sent_by_layer : (b : HoldBack (List Place)) (c t : ℕ) → back_sent gone b c t ≡ bench_sent b c t
 sent_by_layer b c t = refl
 
