@@ -25,16 +25,22 @@ RefusedOr (Err f) Done d r e = (r ≡ Err f) × (e ≡ d)
 RefusedOr (Ok x) Done d r e = Done x r e
 
 module _ {D : Type 0} (meaning : D → List Place) where
-  -- A send of carrier c to cell t: it goes there from the cell a in which it stood, and all others are where they were.
-  abbrev pub Sent : (D → ℕ → ℕ → D) → D → ℕ → ℕ → Result Unit DriveFault → D → Type 0
-  Sent sent d c t r e =
-      RefusedOr (departure (slice_get (meaning d) c) c t) (λ a x y. (x ≡ Ok tt) × (y ≡ sent d c t) × (meaning y ≡ slice_set (meaning d) c (Going a t))) d r e
+  -- Carrier c goes to cell t from the cell a in which it stood, and all others are where they were.
+  abbrev pub Goes : (D → ℕ → ℕ → D) → D → ℕ → ℕ → ℕ → Result Unit DriveFault → D → Type 0
+  Goes sent d c t a r e = (r ≡ Ok tt) × (e ≡ sent d c t) × (meaning e ≡ slice_set (meaning d) c (Going a t))
 
-  -- A report on carrier c, which goes to cell b: an answer that the rule allows. If that is "there", the carrier stands in b now,
-  -- and all others are where they were.
+  -- a send of carrier c to cell t
+  abbrev pub Sent : (D → ℕ → ℕ → D) → D → ℕ → ℕ → Result Unit DriveFault → D → Type 0
+  Sent sent d c t r e = RefusedOr (departure (slice_get (meaning d) c) c t) (Goes sent d c t) d r e
+
+  -- Of carrier c, which goes to cell b, the answer is one that the rule allows. If that is "there", the carrier stands in b now, and
+  -- all others are where they were.
+  abbrev pub Tells : (D → ℕ → Answer → D → Type 0) → D → ℕ → ℕ → Result Unit DriveFault → D → Type 0
+  Tells reports d c b r e = (a : Answer) × (r ≡ told c a) × reports d c a e × (meaning e ≡ settled (meaning d) c b a)
+
+  -- a report on carrier c
   abbrev pub Reported : (D → ℕ → Answer → D → Type 0) → D → ℕ → Result Unit DriveFault → D → Type 0
-  Reported reports d c r e =
-      RefusedOr (destination (slice_get (meaning d) c) c) (λ b x y. (a : Answer) × (x ≡ told c a) × reports d c a y × (meaning y ≡ settled (meaning d) c b a)) d r e
+  Reported reports d c r e = RefusedOr (destination (slice_get (meaning d) c) c) (Tells reports d c) d r e
 
   -- A rule that leaves no choice: a report on a carrier that goes has one answer, and there is one drive after it.
   abbrev pub Exact : (D → ℕ → Answer → D → Type 0) → Type 0

@@ -1,5 +1,5 @@
 -- What a drive refuses. The order of the lines is the order of the checks.
-use Rattle.std.specs.Prelude.{ℕ, cond, Some, None, Ok, Err, Option, Result, nat_lt}
+use Rattle.std.specs.Prelude.{ℕ, if◌then◌else◌, Some, None, Ok, Err, Option, Result, nat_lt}
 use Rattle.fault.specs.declared.kinds.DriveFault.{DriveFault}
 use Rattle.fault.specs.declared.kinds.DriveFault.TheVariants.{NoCarrier, AlreadyGoing, NotGoing, NoCell}
 use Rattle.drive.specs.declared.place.Place.{Place}
@@ -13,7 +13,7 @@ leaves (Standing a) c = Ok a
 -- the cell that carrier c, which is in this place if it exists, leaves when it is sent to cell t; or why it is not sent
 abbrev pub departure : Option Place → ℕ → ℕ → Result ℕ DriveFault
 departure None c t = Err (NoCarrier c)
-departure (Some p) c t = cond (nat_lt t 4096) (leaves p c) (Err (NoCell t))
+departure (Some p) c t = if nat_lt t 4096 then leaves p c else Err (NoCell t)
 
 -- the cell to which carrier c goes; or why there is no report on it
 abbrev pub destination : Option Place → ℕ → Result ℕ DriveFault

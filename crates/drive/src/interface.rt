@@ -23,7 +23,8 @@ pub trait Drive {
 
     /// How many carriers there are.
     fn count(&self) -> u8
-        ensures { (result ≡ length (meaning self.now)) × (result ≤ 16) };
+        ensures count { result ≡ length (meaning self.now) }
+        ensures few { result ≤ 16 };
 
     /// Where a carrier is.
     fn place(&self, carrier: u8) -> Result<Place, DriveFault>

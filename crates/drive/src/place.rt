@@ -1,4 +1,4 @@
-ghost use Rattle.std.specs.Prelude.{◌≡◌, Decides};
+ghost use Rattle.std.specs.Prelude.{◌≡◌, ◌↔◌, IsTrue};
 ghost use Rattle.drive.specs.Places.{Holds};
 ghost use Rattle.drive.specs.Calls.{told};
 
@@ -24,7 +24,7 @@ pub enum Answer {
 impl Place {
     /// Whether a carrier in this place holds the cell.
     pub fn holds(self, cell: u16) -> bool
-        ensures { Decides result (Holds self cell) }
+        ensures { IsTrue result ↔ (Holds self cell) }
     {
         match self {
             Place::Standing(at) => cell == at,

@@ -1,22 +1,13 @@
--- A fleet: where its carriers are, and what sends and reports make of it.
-use Rattle.std.specs.Prelude.{◌≡◌, ℕ, List, Some, None, Option, Result}
+-- What sends and reports make of a fleet, which is the list of the places in which its carriers are.
+use Rattle.std.specs.Prelude.{◌≡◌, ℕ, List, Some, None, Option, Result, slice_set}
 use Rattle.std.specs.List.{slice_get}
 use Rattle.fault.specs.declared.kinds.DriveFault.{DriveFault}
-use Rattle.fixed.specs.Items.{items, with_item}
 use Rattle.drive.specs.declared.place.Answer.{Answer}
-use Rattle.drive.specs.declared.place.Answer.TheVariants.{There, NotYet}
+use Rattle.drive.specs.declared.place.Answer.TheVariants.{There}
 use Rattle.drive.specs.declared.place.Place.{Place}
 use Rattle.drive.specs.declared.place.Place.TheVariants.{Standing, Going}
 use Rattle.drive.specs.Calls.{told, settled, RefusedOr}
 use Rattle.drive.specs.Refusals.{destination}
-use Rattle.drives.specs.declared.fleet.Fleet.{Fleet}
-
-abbrev pub places : Fleet → List Place
-places f = items f.places
-
--- carrier c is in another place
-abbrev pub with_place : Fleet → ℕ → Place → Fleet
-with_place f c p = record { places = with_item f.places c p }
 
 -- the cell in which a carrier stands or which it has left, and that in which it stands or to which it goes
 abbrev pub source : Option Place → ℕ
@@ -30,18 +21,22 @@ target (Some (Standing a)) = a
 target (Some (Going a b)) = b
 
 -- carrier c is sent to cell t
-abbrev pub gone : Fleet → ℕ → ℕ → Fleet
-gone f c t = with_place f c (Going (source (slice_get (places f) c)) t)
-
--- carrier c is there
-abbrev pub come : Fleet → ℕ → Fleet
-come f c = with_place f c (Standing (target (slice_get (places f) c)))
+abbrev pub gone : List Place → ℕ → ℕ → List Place
+gone ps c t = slice_set ps c (Going (source (slice_get ps c)) t)
 
 -- a report on carrier c is answered
-abbrev pub answered : Fleet → ℕ → Answer → Fleet
-answered f c There = come f c
-answered f c NotYet = f
+abbrev pub answered : List Place → ℕ → Answer → List Place
+answered ps c = settled ps c (target (slice_get ps c))
 
-abbrev pub Answered : Fleet → ℕ → Answer → Result Unit DriveFault → Fleet → Type 0
-Answered f c a r e =
-    RefusedOr (destination (slice_get (places f) c) c) (λ b x y. (x ≡ told c a) × (y ≡ answered f c a) × (places y ≡ settled (places f) c b a)) f r e
+-- carrier c is there
+abbrev pub come : List Place → ℕ → List Place
+come ps c = answered ps c There
+
+-- a report on carrier c that is given the answer a, if it is not refused
+abbrev pub Answered : List Place → ℕ → Answer → Result Unit DriveFault → List Place → Type 0
+Answered ps c a r qs =
+    RefusedOr (destination (slice_get ps c) c) (λ b x y. (x ≡ told c a) × (y ≡ answered ps c a) × (y ≡ settled ps c b a)) ps r qs
+
+-- the rule: always "there"
+abbrev pub fleet_reports : List Place → ℕ → Answer → List Place → Type 0
+fleet_reports ps c a qs = (a ≡ There) × (qs ≡ come ps c)

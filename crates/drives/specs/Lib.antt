@@ -1,4 +1,2 @@
 pub mod Fleets
-pub mod Holding
-pub mod Benches
 pub mod Recordings

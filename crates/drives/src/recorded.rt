@@ -1,46 +1,51 @@
-ghost use Rattle.std.specs.Prelude.{◌≡◌, map, take};
-ghost use Rattle.drive.specs.declared.place.Answer.TheVariants.{NotYet};
+ghost use Rattle.std.specs.Prelude.{◌≡◌, map, take, drop};
 ghost use Rattle.drive.specs.declared.place.Place.TheVariants.{Standing};
-ghost use Rattle.drives.specs.Recordings.{recorded_places, recorded_sent, recorded_reports, next_answer, recorded_answered};
+ghost use Rattle.drives.specs.Recordings.{recorded_places, recorded_sent, recorded_reports, next_answer};
 
 use crate::fleet::Fleet;
 use drive::interface::Drive;
 use drive::place::{Answer, Place};
 use fault::kinds::DriveFault;
+use std::marker::Model;
 
 /// A drive that answers as a list of bytes says, one byte for each report on a carrier that goes:
 /// 0 is "not yet", and any other byte, or the list's end, is "there".
 #[derive(Drop)]
 pub struct Recorded<'a> {
     fleet: Fleet,
+    /// the bytes that are left
     bytes: &'a [u8],
-    /// how many of the bytes have been taken
-    taken: usize,
+}
+
+impl<'a> Model for Recorded<'a> {
+    ghost use Rattle.drives.specs.Recordings.{Recording};
+
+    ghost Value = { Recording };
+
+    ghost view = { λ d. record { places = d.fleet; bytes = d.bytes.now } };
 }
 
 impl<'a> Recorded<'a> {
     /// Carriers that stand in the first 16 of the cells, or in all of them if they are fewer.
     pub fn new(cells: &[u16], bytes: &'a [u8]) -> Recorded<'a>
-        ensures stand { recorded_places result ≡ map Standing (take 16 cells.now) }
-        ensures bytes { (result.bytes.now ≡ bytes.now) × (result.taken ≡ 0) }
+        ensures stand { result.places ≡ map Standing (take 16 cells.now) }
+        ensures bytes { result.bytes ≡ bytes.now }
     {
         Recorded {
             fleet: Fleet::new(cells),
             bytes,
-            taken: 0,
         }
     }
 
     /// Takes the next byte.
     fn take(&mut self) -> Answer
-        ensures answer { result ≡ next_answer self.old }
-        ensures after { self.new ≡ recorded_answered self.old 0 NotYet }
+        ensures answer { result ≡ next_answer self.old.bytes }
+        ensures after { self.new ≡ record self.old { bytes = drop 1 self.old.bytes } }
     {
-        if self.taken >= self.bytes.len() {
+        let Some((&byte, rest)) = self.bytes.split_first() else {
             return Answer::There;
-        }
-        let byte = self.bytes[self.taken];
-        self.taken += 1;
+        };
+        self.bytes = rest;
         if byte == 0 {
             Answer::NotYet
         } else {
@@ -71,6 +76,6 @@ impl<'a> Drive for Recorded<'a> {
     fn report(&mut self, carrier: u8) -> Result<(), DriveFault> {
         self.fleet.destination(carrier)?;
         let answer = self.take();
-        self.fleet.report(carrier, answer)
+        self.fleet.answer(carrier, answer)
     }
 }

@@ -3,8 +3,8 @@ use Rattle.std.specs.Prelude.{◌≡◌, ℕ, List, MatchBool}
 use Rattle.drive.specs.declared.place.Answer.{Answer}
 use Rattle.drive.specs.declared.place.Answer.TheVariants.{NotYet}
 use Rattle.drive.specs.declared.place.Place.{Place}
-use Rattle.drives.specs.declared.hold_ups.HoldUps.{HoldUps}
-use Rattle.drives.specs.Holding.{held_up, restarted, counted}
+use Rattle.layers.specs.declared.hold_ups.HoldUps.{HoldUps}
+use Rattle.layers.specs.Holding.{held_up, restarted, counted}
 use Rattle.layers.specs.declared.hold_back.HoldBack.{HoldBack}
 
 module _ {D : Type 0} where

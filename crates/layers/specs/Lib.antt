@@ -1,2 +1,4 @@
+pub mod Holding
 pub mod HoldingBack
 pub mod Sections
+pub mod Benches

@@ -1,11 +1,11 @@
 ghost use Rattle.std.specs.Prelude.{◌≡◌};
-ghost use Rattle.drives.specs.Holding.{fresh};
+ghost use Rattle.layers.specs.Holding.{fresh};
 ghost use Rattle.layers.specs.HoldingBack.{hold_back, back_places, back_sent, back_reports};
 
+use crate::hold_ups::HoldUps;
 use drive::checks::destination;
 use drive::interface::Drive;
 use drive::place::{Answer, MAX_CARRIERS, Place};
-use drives::hold_ups::HoldUps;
 use fault::kinds::DriveFault;
 
 /// A layer that answers "not yet" to each movement of a carrier as often as is said of that
@@ -31,7 +31,7 @@ impl<D: Drive> HoldBack<D> {
     pub fn into_inner(self) -> D
         ensures { result ≡ self.inner }
     {
-        let HoldBack { inner, hold_ups: _ } = self;
+        let HoldBack { inner, .. } = self;
         inner
     }
 }

@@ -1,4 +1,4 @@
-ghost use Rattle.std.specs.Prelude.{◌≡◌, ◌+◌, ◌-◌, ◌<◌, ◌≤◌, min, length, MatchResult};
+ghost use Rattle.std.specs.Prelude.{◌≡◌, ◌+◌, ◌<◌, ◌≤◌, ◌↔◌, length, IsOk, IfOk, IfErr};
 ghost use Rattle.fault.specs.declared.kinds.DriveFault.TheVariants.{NoCarrier};
 ghost use Rattle.layers.specs.Sections.{section, restated, part_places, part_sent, part_reports};
 
@@ -26,18 +26,14 @@ impl<D: Drive> Section<D> {
     pub fn into_inner(self) -> D
         ensures { result ≡ self.inner }
     {
-        let Section {
-            inner,
-            first: _,
-            most: _,
-        } = self;
+        let Section { inner, .. } = self;
         inner
     }
 
     /// How many carriers are shown.
     fn shown(&self) -> u8
-        ensures value { result ≡ min (length (D.meaning self.now.inner) - self.now.first) self.now.most }
-        ensures few { length (D.meaning self.now.inner) ≤ 16 }
+        ensures shown { result ≡ length (part_places D.meaning self.now) }
+        ensures below { length (D.meaning self.now.inner) ≤ 16 }
     {
         let beyond = self.inner.count().saturating_sub(self.first);
         beyond.min(self.most)
@@ -45,7 +41,9 @@ impl<D: Drive> Section<D> {
 
     /// The number below of a carrier that is shown.
     fn below(&self, carrier: u8) -> Result<u8, DriveFault>
-        ensures { MatchResult result (λ k. (k ≡ self.now.first + carrier) × (carrier < length (part_places D.meaning self.now))) (λ f. (f ≡ NoCarrier carrier) × (length (part_places D.meaning self.now) ≤ carrier)) }
+        ensures shown { IsOk result ↔ (carrier < length (part_places D.meaning self.now)) }
+        ensures number { IfOk result (λ k. k ≡ self.now.first + carrier) }
+        ensures fault { IfErr result (λ f. f ≡ NoCarrier carrier) }
     {
         if carrier < self.shown() {
             Ok(self.first + carrier)
@@ -59,10 +57,7 @@ impl<D: Drive> Section<D> {
 fn restated<T>(answer: Result<T, DriveFault>, carrier: u8) -> Result<T, DriveFault>
     ensures { result ≡ restated carrier answer }
 {
-    match answer {
-        Ok(value) => Ok(value),
-        Err(fault) => Err(fault.renumbered(carrier)),
-    }
+    answer.map_err(|fault| fault.renumbered(carrier))
 }
 
 impl<D: Drive> Drive for Section<D> {

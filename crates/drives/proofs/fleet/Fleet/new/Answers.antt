@@ -1,19 +1,23 @@
-use Rattle.std.proofs.Common.{◌≡◌, ℕ, ◌+◌, ◌-◌, ◌<◌, ◌≤◌, List, [], ◌∷◌, ◌++◌, map, length, get_or, take, Ok, Err, Result, sym, ap, ◌∙◌, arith, MatchResult}
-use Rattle.std.proofs.lemmas.List.{map_more, get_or-take, length-map, length-take}
+use Rattle.std.proofs.Common.{◌≡◌, ℕ, ◌+◌, ◌<◌, List, [], ◌∷◌, ◌++◌, map, take, length, Ok, Err, Result, arith, MatchResult, append_assoc, length-append, add-one, ◌∙◌}
 use Rattle.drive.specs.declared.place.Place.{Place}
 use Rattle.drive.specs.declared.place.Place.TheVariants.{Standing}
 use Rattle.drives.proofs.fleet.Fleet.new.Goals as goal
 
--- one carrier more: a list that is not full takes it
-module _ (cells : List ℕ) (n i : ℕ) (before after : List Place) (Same : Type 0) (was : before ≡ map Standing (take i cells)) (h : i < length (take (n - 0) cells)) (few : n ≤ 16) where
-  within : i < length cells
-  within = omega (arith, simp length-take at h)
+-- a list that is not full takes an item
+taken : {X F : Type 0} (Same : Type 0) (before after : List X) (x : X) (r : Result Unit F) → MatchResult r (λ _. after ≡ before ++ x ∷ []) (λ _. (length before ≡ 16) × Same) → length before < 16 → after ≡ before ++ x ∷ []
+taken Same before after x (Ok u) is room = is
+taken Same before after x (Err f) full room = absurd (omega (arith, full.0))
 
-  one_more : {F : Type 0} (r : Result Unit F) → MatchResult r (λ _. after ≡ before ++ Standing (get_or (take (n - 0) cells) i 0) ∷ []) (λ _. (length before ≡ 16) × Same) → after ≡ map Standing (take (i + 1) cells)
-  one_more (Ok u) p =
-      p ∙ ap (λ xs. xs ++ Standing (get_or (take (n - 0) cells) i 0) ∷ []) was ∙ ap (λ x. map Standing (take i cells) ++ Standing x ∷ []) (get_or-take (n - 0) cells i 0 (omega (arith, simp length-take at h))) ∙ sym (map_more Standing cells i 0 within)
-  one_more (Err f) p = absurd (omega (arith, p.0, ap length was, length-map (take i cells) Standing, length-take i cells, simp length-take at h))
+-- what is taken from the cells that are left and what is still to come are one list
+moved : (before : List Place) (x n : ℕ) (rest : List ℕ) → (before ++ Standing x ∷ []) ++ map Standing (take n rest) ≡ before ++ map Standing (take (n + 1) (x ∷ rest))
+moved before x n rest = rw add-one (append_assoc before (Standing x ∷ []) (map Standing (take n rest)))
 
 pub loop-cell-preserved : goal.loop-cell-preserved
 loop-cell-preserved c =
-    one_more c.args.cells.now c.min-count.result c.loop-cell.cell-index _ _ _ c.loop-cell.invariant c.loop-cell-test.true (omega (arith, c.min-count.ensures)) c.push.result c.push.ensures
+    let (more, fewer) = c.in-Some.ensures.steps in
+    let was = c.loop-cell.invariant in
+    let is = taken _ _ _ _ c.push.result c.push.ensures (omega (arith, was.room, fewer)) in
+    rw is (record {
+      list = moved _ _ _ _ ∙ rw (more, ← fewer) at was.list;
+      room = omega (arith, length-append {A = Place}, was.room, fewer);
+    })
