@@ -18,7 +18,7 @@ pub(crate) fn word(bytes: &[u8], at: usize) -> u16
     requires { at + 1 < length bytes.now }
     ensures { result ≡ word bytes.now at }
 {
-    u16::from(bytes[at]) + 256 * u16::from(bytes[at + 1])
+    u16::from_le_bytes([bytes[at], bytes[at + 1]])
 }
 
 /// A number of the header as it stands there.
@@ -26,7 +26,7 @@ fn stated(bytes: &[u8], field: Field) -> u16
     requires { 8 ≤ length bytes.now }
     ensures { result ≡ header bytes.now field }
 {
-    word(bytes, 2 * field.place() as usize)
+    word(bytes, 2 * usize::from(field.place()))
 }
 
 /// A number of the header, if it is in its range.
@@ -35,15 +35,16 @@ fn number(bytes: &[u8], field: Field) -> Result<u16, RecordFault>
     ensures { MatchResult result (λ n. (n ≡ header bytes.now field) × InRange bytes.now field) (λ e. (e ≡ RecordFault.Header field) × (InRange bytes.now field → ⊥)) }
 {
     let value = stated(bytes, field);
-    let (least, most) = match field {
-        Field::Width | Field::Height => (1, MAX_SIDE as u16),
-        Field::Carriers => (1, MAX_CARRIERS as u16),
-        Field::Entries => (stated(bytes, Field::Carriers), MAX_ENTRIES as u16),
+    let range = match field {
+        Field::Width | Field::Height => 1..=MAX_SIDE as u16,
+        Field::Carriers => 1..=MAX_CARRIERS as u16,
+        Field::Entries => stated(bytes, Field::Carriers)..=MAX_ENTRIES as u16,
     };
-    if value < least || value > most {
-        return Err(RecordFault::Header(field));
+    if range.contains(&value) {
+        Ok(value)
+    } else {
+        Err(RecordFault::Header(field))
     }
-    Ok(value)
 }
 
 /// The record at the front of some bytes, as long as its header says, and what follows it. Where
@@ -53,7 +54,7 @@ pub fn split_record(bytes: &[u8]) -> (&[u8], &[u8])
     ensures after { result.1.now ≡ rest bytes.now }
 {
     if bytes.len() >= HEADER_LEN {
-        let end = HEADER_LEN + ENTRY_LEN * stated(bytes, Field::Entries) as usize;
+        let end = HEADER_LEN + ENTRY_LEN * usize::from(stated(bytes, Field::Entries));
         if end <= bytes.len() {
             return bytes.split_at(end);
         }
@@ -61,11 +62,13 @@ pub fn split_record(bytes: &[u8]) -> (&[u8], &[u8])
     bytes.split_at(bytes.len())
 }
 
-impl Header {
-    /// The header of a record that is as long as it says, or what is wrong with the record.
-    pub fn read(bytes: &[u8]) -> Result<Header, RecordFault>
-        ensures { Verdict record_number (RecordApplies bytes.now) (ReadsHeader bytes.now) result }
-    {
+/// The header of a record that is as long as it says, or what is wrong with the record.
+impl TryFrom<&[u8]> for Header {
+    type Error = RecordFault;
+
+    ghost try_from_gives = { λ bytes r. Verdict record_number (RecordApplies bytes.now) (ReadsHeader bytes.now) r };
+
+    fn try_from(bytes: &[u8]) -> Result<Header, RecordFault> {
         if bytes.len() < HEADER_LEN {
             return Err(RecordFault::Short);
         }
@@ -73,7 +76,7 @@ impl Header {
         let height = number(bytes, Field::Height)?;
         let carriers = number(bytes, Field::Carriers)?;
         let entries = number(bytes, Field::Entries)?;
-        if bytes.len() != HEADER_LEN + ENTRY_LEN * entries as usize {
+        if bytes.len() != HEADER_LEN + ENTRY_LEN * usize::from(entries) {
             return Err(RecordFault::Length);
         }
         Ok(Header {

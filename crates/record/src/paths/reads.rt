@@ -38,7 +38,7 @@ impl Paths {
     pub fn read(bytes: &[u8]) -> Result<Paths, EntryFault>
         ensures { Verdict entry_number (EntryApplies bytes.now) (λ paths. paths_draft paths ≡ draft bytes.now) result }
     {
-        let header = Header::read(bytes)?;
+        let header = Header::try_from(bytes)?;
         let entries = load(bytes, &header);
         validate(&header, &entries[0..header.entries as usize])?;
         Ok(Paths { header, entries })
