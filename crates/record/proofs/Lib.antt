@@ -1,4 +1,6 @@
 pub mod Layers
+pub mod Loads
+pub mod Ranges
 pub mod Steps
 pub mod Sound
 pub mod Visits

@@ -1,6 +1,5 @@
 -- What paths have, being sound.
 use Rattle.std.proofs.Common.{◌≡◌, ℕ, ◌<◌, ◌≤◌, length, inl, inr, ⊎_elim, arith}
-use Rattle.std.proofs.lemmas.List.{length-take-le}
 use Rattle.std.proofs.lemmas.Bool.{cases_lt}
 use Rattle.fault.specs.declared.kinds.Flaw.TheVariants.{Carrier}
 use Rattle.record.specs.declared.paths.Paths.{Paths}
@@ -13,7 +12,7 @@ carrier_known d sound k h = ⊎_elim (λ l. l) (λ l. absurd (sound Carrier k (i
 
 module _ (r : Paths) where
   pub draft_length : length (paths_draft r).entries ≡ r.header.entries
-  draft_length = length-take-le _ _ (omega (arith, r.room, r.header.listed))
+  draft_length = r.counted
 
   pub draft_few : length (paths_draft r).entries ≤ 512
   draft_few = omega (arith, draft_length, r.header.listed)

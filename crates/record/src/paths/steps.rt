@@ -55,7 +55,7 @@ impl Paths {
     pub fn entries(&self) -> &[Entry]
         ensures { result.now ≡ (paths_draft self.now).entries }
     {
-        &self.entries[0..self.header.entries as usize]
+        self.entries.as_slice()
     }
 
     /// The cell of each carrier at a step, 0 for a carrier that the plan lacks.
