@@ -1,5 +1,7 @@
+pub mod Arrays
 pub mod Layers
 pub mod Loads
+pub mod Together
 pub mod Ranges
 pub mod Steps
 pub mod Sound
