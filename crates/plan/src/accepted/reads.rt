@@ -27,7 +27,7 @@ impl Plan {
         ensures judged { Judged bytes.now (told result) }
         ensures only { Only bytes.now (told result) }
     {
-        accept(Paths::read(bytes)?)
+        accept(Paths::try_from(bytes)?)
     }
 
     /// The paths of the plan.
