@@ -49,7 +49,8 @@ impl Moment {
         ensures { LowestPair self.now.carriers (Meets kind self.now) result }
     {
         (0..self.carriers).find_map(|first| {
-            self.lowest_second(kind, first).map(|second| (first, second))
+            self.lowest_second(kind, first)
+                .map(|second| (first, second))
         })
     }
 }

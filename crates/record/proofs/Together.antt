@@ -25,8 +25,8 @@ module _ {X : Type 0} (p : X → Bool) where
       let n : length (take i xs) ≡ i = length-take-le i xs within in
       ap (filter p) (sym (take-append-drop i xs)) ∙ filter-append p (take i xs) (drop i xs)
       ∙ (λ j.
-          filter_whole (take i xs) (λ k d l u. rw (get_or-take i xs k d (omega arith)) (before k d l (omega arith))) j
-          ++ filter_none (drop i xs) (λ k d l u. rw (get_or-drop i xs k d) (after (i + k) d (omega arith) (omega (arith, length-drop i xs)))) j)
+      filter_whole (take i xs) (λ k d l u. rw (get_or-take i xs k d (omega arith)) (before k d l (omega arith))) j
+      ++ filter_none (drop i xs) (λ k d l u. rw (get_or-drop i xs k d) (after (i + k) d (omega arith) (omega (arith, length-drop i xs)))) j)
       ∙ append-nil _
 
 -- carrier numbers never fall
@@ -86,6 +86,6 @@ module _ (es : List Entry) (c : ℕ) (rises : IsNonDecreasingBy (λ e. e.carrier
     together n within ends =
         let none : filter (λ e. e.carrier == c) (take s es) ≡ [] = filter_none (λ (e : Entry). e.carrier == c) (take s es) (λ k d l u. early k d (omega (arith, length-take-le s es most))) in
         sym (
-          ap (filter (λ e. e.carrier == c)) (sym (take-append-drop s es)) ∙ filter-append (λ (e : Entry). e.carrier == c) (take s es) (drop s es)
-          ∙ (λ i. none i ++ filter (λ (e : Entry). e.carrier == c) (sym is i)) ∙ filter_front (λ (e : Entry). e.carrier == c) rest n within ends
+        ap (filter (λ e. e.carrier == c)) (sym (take-append-drop s es)) ∙ filter-append (λ (e : Entry). e.carrier == c) (take s es) (drop s es)
+        ∙ (λ i. none i ++ filter (λ (e : Entry). e.carrier == c) (sym is i)) ∙ filter_front (λ (e : Entry). e.carrier == c) rest n within ends
         )

@@ -1,6 +1,6 @@
 ghost use Rattle.std.specs.Prelude.{◌≡◌, ◌+◌, ◌<◌, ◌≤◌, length, MatchResult};
 ghost use Rattle.fault.specs.Firsts.{Verdict};
-ghost use Rattle.record.specs.Layout.{word, header, front, rest, InRange, RecordApplies};
+ghost use Rattle.record.specs.Layout.{word, header, stated_length, front, rest, InRange, RecordApplies};
 ghost use Rattle.record.specs.Headers.{ReadsHeader, record_number};
 
 use crate::header::Header;
@@ -47,19 +47,24 @@ fn number(bytes: &[u8], field: Field) -> Result<u16, RecordFault>
     }
 }
 
+/// How long the header says that the record is.
+fn stated_len(bytes: &[u8]) -> usize
+    requires { 8 ≤ length bytes.now }
+    ensures { result ≡ stated_length bytes.now }
+{
+    HEADER_LEN + ENTRY_LEN * usize::from(stated(bytes, Field::Entries))
+}
+
 /// The record at the front of some bytes, as long as its header says, and what follows it. Where
 /// the bytes end before that, all of them are the record.
 pub fn split_record(bytes: &[u8]) -> (&[u8], &[u8])
     ensures before { result.0.now ≡ front bytes.now }
     ensures after { result.1.now ≡ rest bytes.now }
 {
-    if bytes.len() >= HEADER_LEN {
-        let end = HEADER_LEN + ENTRY_LEN * usize::from(stated(bytes, Field::Entries));
-        if end <= bytes.len() {
-            return bytes.split_at(end);
-        }
+    if bytes.len() < HEADER_LEN {
+        return (bytes, &[]);
     }
-    bytes.split_at(bytes.len())
+    bytes.split_at(stated_len(bytes).min(bytes.len()))
 }
 
 /// The header of a record that is as long as it says, or what is wrong with the record.
@@ -76,7 +81,7 @@ impl TryFrom<&[u8]> for Header {
         let height = number(bytes, Field::Height)?;
         let carriers = number(bytes, Field::Carriers)?;
         let entries = number(bytes, Field::Entries)?;
-        if bytes.len() != HEADER_LEN + ENTRY_LEN * usize::from(entries) {
+        if bytes.len() != stated_len(bytes) {
             return Err(RecordFault::Length);
         }
         Ok(Header {

@@ -1,20 +1,13 @@
 ghost use Rattle.std.specs.Prelude.{◌≡◌, ℕ, ◌==◌, ◌≤◌, map, filter, length};
 ghost use Rattle.std.specs.List.{range_with_len};
 ghost use Rattle.record.specs.Paths.{paths_draft};
-ghost use Rattle.record.specs.Steps.{at_step, cell, visits, visit_count};
+ghost use Rattle.record.specs.Steps.{cell, visits, visit_count};
 
 use super::Paths;
 use crate::MAX_CARRIERS;
 use crate::entry::Entry;
 use crate::header::Header;
 use std::array;
-
-/// The cell of a path at a step: that of its last entry from there on, 0 if it has none.
-fn cell_on(path: &[Entry], step: u16) -> u16
-    ensures { result ≡ at_step (map (λ e. e.cell) path.now) step }
-{
-    path.get(usize::from(step)).or(path.last()).map_or(0, |entry| entry.cell)
-}
 
 /// How many entries of a path are visits.
 fn visits_on(path: &[Entry]) -> u16
@@ -55,11 +48,22 @@ impl Paths {
         &rest[..rest.partition_point(|entry| entry.carrier == carrier)]
     }
 
+    /// The cell of a carrier at a step, 0 for a carrier that the plan lacks. After its last entry it
+    /// rests there.
+    fn cell_at(&self, carrier: u8, step: u16) -> u16
+        ensures { result ≡ cell (paths_draft self.now) carrier step }
+    {
+        let path = self.path(carrier);
+        path.get(usize::from(step))
+            .or(path.last())
+            .map_or(0, |entry| entry.cell)
+    }
+
     /// The cell of each carrier at a step, 0 for a carrier that the plan lacks.
     pub fn cells_at(&self, step: u16) -> [u16; MAX_CARRIERS]
         ensures { result ≡ map (λ i. cell (paths_draft self.now) i step) (range_with_len 0 16) }
     {
-        array::from_fn(|carrier| cell_on(self.path(carrier as u8), step))
+        array::from_fn(|carrier| self.cell_at(carrier as u8, step))
     }
 
     /// How many visits a carrier makes, 0 for a carrier that the plan lacks.

@@ -2,7 +2,7 @@ use Rattle.std.proofs.Common.{rules}
 use Rattle.plan.specs.Plans.{told, Judged}
 use Rattle.plan.proofs.Only.{only}
 use Rattle.plan.proofs.Verdicts.{accepted_judged}
-use Rattle.plan.proofs.accepted.Plan.read.Goals as goal
+use Rattle.plan.proofs.accepted.reads.PlanTryFromRefSliceU8.try_from.Goals as goal
 
 pub returns-in_err-try_from : goal.returns-in_err-try_from
 returns-in_err-try_from c =
