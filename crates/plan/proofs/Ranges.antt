@@ -1,20 +1,12 @@
 -- `find_map` over a range from 0 on, said of the numbers in it.
-use Rattle.std.proofs.Common.{◌≡◌, ℕ, ◌+◌, ◌-◌, ◌<◌, ◌≤◌, Some, None, Option, IfSome, IsSomeAnd, IsTrue, MatchOption, zero-add, rules, sym, ap, ◌∙◌, subst, arith}
+use Rattle.std.proofs.Common.{◌≡◌, ℕ, ◌+◌, ◌-◌, ◌<◌, Some, None, Option, IsTrue, MatchOption, zero-add, rules, ap, ◌∙◌, arith}
 use denote.Param.Members.{Mut}
 use Rattle.std.specs.Fn.{Called}
-use Rattle.std.specs.Option.{option_map}
 use Rattle.std.specs.declared.ops.Range.{Range}
 use Rattle.std.specs.Iterator.Runs.{Run, ItemsCountUp, SomeRun, AllItemsGive, IsFirstToGive, CallKeepsClosure}
+use Rattle.record.proofs.Ranges.{if_at, and_at}
 use Rattle.std.proofs.iter.Yields.{nat_range_steps}
 use Rattle.std.proofs.iter.runs.Sources.{range_runs}
-
-if_at : (o : Option ℕ) (n : ℕ) (Q : ℕ → Type 0) → option_map (λ y. y) o ≡ Some n → IfSome o Q → Q n
-if_at None n Q e h = absurd cc
-if_at (Some x) n Q e h = let same : x ≡ n = cc in subst Q same h
-
-and_at : (o : Option ℕ) (n : ℕ) (Q : ℕ → Type 0) → option_map (λ y. y) o ≡ Some n → IsSomeAnd o Q → Q n
-and_at None n Q e h = absurd h
-and_at (Some x) n Q e h = let same : x ≡ n = cc in subst Q same h
 
 module _ {F B : Type 0} (g : Mut F (ℕ × Unit {0}) (Option B)) (s : Range ℕ) (n : ℕ) (f : F) (Misses : ℕ → Type 0) (Gives : ℕ → B → Type 0) (start : s.start ≡ 0) (end : s.end ≡ n) (keeps : CallKeepsClosure g f) (miss : (x : ℕ) → Called g f (x, tt) None f → Misses x) (give : (x : ℕ) (y : B) → Called g f (x, tt) (Some y) f → Gives x y) where
   counts : (u : Run nat_range_steps) → u.from ≡ s → ItemsCountUp u 0 n

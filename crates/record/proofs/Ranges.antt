@@ -1,5 +1,5 @@
 -- `find` over `0..=n`, said of the numbers in it.
-use Rattle.std.proofs.Common.{◌≡◌, ℕ, ◌+◌, ◌-◌, ◌<◌, ◌≤◌, Bool, true, false, Some, None, Option, IfSome, MatchOption, IsSomeAnd, IsTrue, rules, sym, ap, ◌∙◌, subst, zero-add, arith}
+use Rattle.std.proofs.Common.{◌≡◌, ℕ, ◌+◌, ◌-◌, ◌<◌, ◌≤◌, Bool, true, false, Some, None, Option, IfSome, MatchOption, IsSomeAnd, IsTrue, rules, ap, ◌∙◌, subst, zero-add, arith}
 use denote.Param.Members.{Mut}
 use denote.Ref.{Bor}
 use Rattle.std.specs.Fn.{CalledAt}
@@ -10,11 +10,12 @@ use Rattle.std.specs.Iterator.Runs.{Run, ItemsCountUp, SomeRun, NoItemPasses, En
 use Rattle.fault.specs.Firsts.{First}
 use Rattle.std.proofs.iter.runs.Sources.{nat_range_inclusive_steps, inclusive_listed}
 
-if_at : (o : Option ℕ) (n : ℕ) (Q : ℕ → Type 0) → option_map (λ y. y) o ≡ Some n → IfSome o Q → Q n
+-- what holds of an item that is there
+pub if_at : (o : Option ℕ) (n : ℕ) (Q : ℕ → Type 0) → option_map (λ y. y) o ≡ Some n → IfSome o Q → Q n
 if_at None n Q e h = absurd cc
 if_at (Some x) n Q e h = let same : x ≡ n = cc in subst Q same h
 
-and_at : (o : Option ℕ) (n : ℕ) (Q : ℕ → Type 0) → option_map (λ y. y) o ≡ Some n → IsSomeAnd o Q → Q n
+pub and_at : (o : Option ℕ) (n : ℕ) (Q : ℕ → Type 0) → option_map (λ y. y) o ≡ Some n → IsSomeAnd o Q → Q n
 and_at None n Q e h = absurd h
 and_at (Some x) n Q e h = let same : x ≡ n = cc in subst Q same h
 

@@ -1,4 +1,3 @@
-use Rattle.std.proofs.Common.{rules, None, Some}
 use Rattle.record.specs.Paths.{paths_draft}
 use Rattle.plan.proofs.Moments.{none_here, first_here}
 use Rattle.plan.proofs.conflicts.first_at.Goals as goal

@@ -1,4 +1,4 @@
-use Rattle.std.proofs.Common.{rules, length, map, sym, ap, ◌∙◌, arith}
+use Rattle.std.proofs.Common.{rules, map, sym, ap, ◌∙◌}
 use Rattle.std.proofs.lemmas.Result.{MatchResult-at_ok}
 use Rattle.std.proofs.lemmas.List.{length_push, take_rest}
 use Rattle.std.specs.List.{range_with_len}
