@@ -374,7 +374,7 @@ fn entries_end_at_512(rt: HostRuntime) -> Result<(), Fail> {
 
 #[test]
 fn a_record_alone_has_its_own_length(rt: HostRuntime) {
-    let numbered = match Plan::read(&[1, 0, 1, 0, 1, 0, 1, 0, 0, 0, 0, 128]) {
+    let numbered = match Plan::try_from(&[1, 0, 1, 0, 1, 0, 1, 0, 0, 0, 0, 128][..]) {
         Ok(_) => 0,
         Err(fault) => fault.number(),
     };
