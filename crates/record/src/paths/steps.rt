@@ -38,11 +38,14 @@ impl Paths {
         self.entries.as_slice()
     }
 
-    /// The entries of a carrier, which lie together.
+    /// The entries of a carrier, which lie together; none for a carrier that the plan lacks.
     fn path(&self, carrier: u8) -> &[Entry]
         ensures own { result.now ≡ filter (λ e. e.carrier == carrier) (paths_draft self.now).entries }
         ensures few { length result.now ≤ 512 }
     {
+        if carrier >= self.header.carriers {
+            return &[];
+        }
         let entries = self.entries();
         let rest = &entries[entries.partition_point(|entry| entry.carrier < carrier)..];
         &rest[..rest.partition_point(|entry| entry.carrier == carrier)]
