@@ -19,6 +19,7 @@ impl Moment {
         }
     }
 
+    // A kind is a value and no closure: the fault carries it, and the contracts speak of it.
     /// Whether two carriers are in conflict.
     fn meets(&self, kind: Conflict, first: u8, second: u8) -> bool
         requires first_known { first < self.now.carriers }

@@ -22,7 +22,8 @@ fn distance(width: u8, a: u16, b: u16) -> u32
 /// Whether a carrier's entry is neither in the cell of its entry before nor beside it.
 fn jumps(width: u8, before: Entry, after: Entry) -> bool
     requires { 1 ≤ width }
-    ensures { IsTrue result ↔ (before.carrier ≡ after.carrier) × (1 < distance width before.cell after.cell) }
+    ensures { IsTrue result ↔ ((before.carrier ≡ after.carrier)
+        × (1 < distance width before.cell after.cell)) }
 {
     before.carrier == after.carrier && distance(width, before.cell, after.cell) > 1
 }
@@ -68,12 +69,14 @@ impl Listing<'_> {
         cell >= u16::from(self.header.width) * u16::from(self.header.height)
     }
 
+    /// Where the carrier numbers first break their rule.
     fn first_misnumbered(&self) -> Option<usize>
         ensures { Found (listed self.now) Carrier result }
     {
         (0..=self.entries.len()).find(|&k| self.misnumbered(k))
     }
 
+    /// The first entry whose cell is not on the floor.
     fn first_off_floor(&self) -> Option<usize>
         ensures { Found (listed self.now) Cell result }
     {
@@ -82,6 +85,7 @@ impl Listing<'_> {
             .position(|entry| self.off_floor(entry.cell))
     }
 
+    /// The first entry that jumps, the later one of the two.
     fn first_jump(&self) -> Option<usize>
         ensures { Found (listed self.now) Neighbour result }
     {

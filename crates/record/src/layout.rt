@@ -1,4 +1,4 @@
-ghost use Rattle.std.specs.Prelude.{◌≡◌, ◌+◌, ◌<◌, ◌≤◌, length, MatchResult};
+ghost use Rattle.std.specs.Prelude.{◌≡◌, ◌+◌, ◌<◌, ◌≤◌, ◌↔◌, length, IsOk, IfOk, IfErr};
 ghost use Rattle.fault.specs.Firsts.{Verdict};
 ghost use Rattle.record.specs.Layout.{word, header, stated_length, front, rest, InRange, RecordApplies};
 ghost use Rattle.record.specs.Headers.{ReadsHeader, record_number};
@@ -32,7 +32,9 @@ fn stated(bytes: &[u8], field: Field) -> u16
 /// A number of the header, if it is in its range.
 fn number(bytes: &[u8], field: Field) -> Result<u16, RecordFault>
     requires { 8 ≤ length bytes.now }
-    ensures { MatchResult result (λ n. (n ≡ header bytes.now field) × InRange bytes.now field) (λ e. (e ≡ RecordFault.Header field) × (InRange bytes.now field → ⊥)) }
+    ensures in_range { IsOk result ↔ InRange bytes.now field }
+    ensures value { IfOk result (λ n. n ≡ header bytes.now field) }
+    ensures fault { IfErr result (λ e. e ≡ RecordFault.Header field) }
 {
     let value = stated(bytes, field);
     let range = match field {
@@ -71,7 +73,8 @@ pub fn split_record(bytes: &[u8]) -> (&[u8], &[u8])
 impl TryFrom<&[u8]> for Header {
     type Error = RecordFault;
 
-    ghost try_from_gives = { λ bytes r. Verdict record_number (RecordApplies bytes.now) (ReadsHeader bytes.now) r };
+    ghost try_from_gives = { λ bytes r.
+        Verdict record_number (RecordApplies bytes.now) (ReadsHeader bytes.now) r };
 
     fn try_from(bytes: &[u8]) -> Result<Header, RecordFault> {
         if bytes.len() < HEADER_LEN {

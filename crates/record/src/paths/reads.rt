@@ -37,7 +37,8 @@ fn load(bytes: &[u8], header: &Header) -> Bounded<Entry, MAX_ENTRIES>
 impl TryFrom<&[u8]> for Paths {
     type Error = EntryFault;
 
-    ghost try_from_gives = { λ bytes r. Verdict entry_number (EntryApplies bytes.now) (λ paths. paths_draft paths ≡ draft bytes.now) r };
+    ghost try_from_gives = { λ bytes r. Verdict entry_number (EntryApplies bytes.now)
+        (λ paths. paths_draft paths ≡ draft bytes.now) r };
 
     fn try_from(bytes: &[u8]) -> Result<Paths, EntryFault> {
         let header = Header::try_from(bytes)?;
