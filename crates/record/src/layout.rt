@@ -1,4 +1,4 @@
-ghost use Rattle.std.specs.Prelude.{◌≡◌, ◌+◌, ◌<◌, ◌≤◌, ◌↔◌, length, IsOk, IfOk, IfErr};
+ghost use Rattle.std.specs.Prelude.{◌≡◌, ◌+◌, ◌<◌, ◌≤◌, ◌↔◌, length, IsOk, IfOk, IfErr, IsNone, IfSome};
 ghost use Rattle.fault.specs.Firsts.{Verdict};
 ghost use Rattle.record.specs.Layout.{word, header, stated_length, front, rest, InRange, RecordApplies};
 ghost use Rattle.record.specs.Headers.{ReadsHeader, record_number};
@@ -21,40 +21,56 @@ pub(crate) fn word(bytes: &[u8], at: usize) -> u16
     u16::from_le_bytes([bytes[at], bytes[at + 1]])
 }
 
-/// A number of the header as it stands there.
-fn stated(bytes: &[u8], field: Field) -> u16
-    requires { 8 ≤ length bytes.now }
-    ensures { result ≡ header bytes.now field }
-{
-    word(bytes, 2 * usize::from(field.place()))
+/// Bytes that are enough for a header.
+#[derive(Clone, Copy)]
+struct Head<'a> {
+    bytes: &'a [u8],
+    ghost enough: { 8 ≤ length bytes.now },
 }
 
-/// A number of the header, if it is in its range.
-fn number(bytes: &[u8], field: Field) -> Result<u16, RecordFault>
-    requires { 8 ≤ length bytes.now }
-    ensures in_range { IsOk result ↔ InRange bytes.now field }
-    ensures value { IfOk result (λ n. n ≡ header bytes.now field) }
-    ensures fault { IfErr result (λ e. e ≡ RecordFault.Header field) }
-{
-    let value = stated(bytes, field);
-    let range = match field {
-        Field::Width | Field::Height => 1..=MAX_SIDE as u16,
-        Field::Carriers => 1..=MAX_CARRIERS as u16,
-        Field::Entries => stated(bytes, Field::Carriers)..=MAX_ENTRIES as u16,
-    };
-    if range.contains(&value) {
-        Ok(value)
-    } else {
-        Err(RecordFault::Header(field))
+impl Head<'_> {
+    fn new(bytes: &[u8]) -> Option<Head<'_>>
+        ensures short { IsNone result ↔ (length bytes.now < 8) }
+        ensures same { IfSome result (λ head. head.bytes.now ≡ bytes.now) }
+    {
+        if bytes.len() < HEADER_LEN {
+            return None;
+        }
+        Some(Head { bytes })
     }
-}
 
-/// How long the header says that the record is.
-fn stated_len(bytes: &[u8]) -> usize
-    requires { 8 ≤ length bytes.now }
-    ensures { result ≡ stated_length bytes.now }
-{
-    HEADER_LEN + ENTRY_LEN * usize::from(stated(bytes, Field::Entries))
+    /// A number of the header as it stands there.
+    fn stated(&self, field: Field) -> u16
+        ensures { result ≡ header self.now.bytes.now field }
+    {
+        word(self.bytes, 2 * usize::from(field.place()))
+    }
+
+    /// A number of the header, if it is in its range.
+    fn number(&self, field: Field) -> Result<u16, RecordFault>
+        ensures in_range { IsOk result ↔ InRange self.now.bytes.now field }
+        ensures value { IfOk result (λ n. n ≡ header self.now.bytes.now field) }
+        ensures fault { IfErr result (λ e. e ≡ RecordFault.Header field) }
+    {
+        let value = self.stated(field);
+        let range = match field {
+            Field::Width | Field::Height => 1..=MAX_SIDE as u16,
+            Field::Carriers => 1..=MAX_CARRIERS as u16,
+            Field::Entries => self.stated(Field::Carriers)..=MAX_ENTRIES as u16,
+        };
+        if range.contains(&value) {
+            Ok(value)
+        } else {
+            Err(RecordFault::Header(field))
+        }
+    }
+
+    /// How long the header says that the record is.
+    fn record_len(&self) -> usize
+        ensures { result ≡ stated_length self.now.bytes.now }
+    {
+        HEADER_LEN + ENTRY_LEN * usize::from(self.stated(Field::Entries))
+    }
 }
 
 /// The record at the front of some bytes, as long as its header says, and what follows it. Where
@@ -63,10 +79,10 @@ pub fn split_record(bytes: &[u8]) -> (&[u8], &[u8])
     ensures before { result.0.now ≡ front bytes.now }
     ensures after { result.1.now ≡ rest bytes.now }
 {
-    if bytes.len() < HEADER_LEN {
-        return (bytes, &[]);
+    match Head::new(bytes) {
+        Some(head) => bytes.split_at(head.record_len().min(bytes.len())),
+        None => (bytes, &[]),
     }
-    bytes.split_at(stated_len(bytes).min(bytes.len()))
 }
 
 /// The header of a record that is as long as it says, or what is wrong with the record.
@@ -77,14 +93,12 @@ impl TryFrom<&[u8]> for Header {
         Verdict record_number (RecordApplies bytes.now) (ReadsHeader bytes.now) r };
 
     fn try_from(bytes: &[u8]) -> Result<Header, RecordFault> {
-        if bytes.len() < HEADER_LEN {
-            return Err(RecordFault::Short);
-        }
-        let width = number(bytes, Field::Width)?;
-        let height = number(bytes, Field::Height)?;
-        let carriers = number(bytes, Field::Carriers)?;
-        let entries = number(bytes, Field::Entries)?;
-        if bytes.len() != stated_len(bytes) {
+        let head = Head::new(bytes).ok_or(RecordFault::Short)?;
+        let width = head.number(Field::Width)?;
+        let height = head.number(Field::Height)?;
+        let carriers = head.number(Field::Carriers)?;
+        let entries = head.number(Field::Entries)?;
+        if bytes.len() != head.record_len() {
             return Err(RecordFault::Length);
         }
         Ok(Header {
