@@ -8,7 +8,10 @@ use Rattle.record.proofs.Ranges.{if_at, and_at}
 use Rattle.std.proofs.iter.Yields.{nat_range_steps}
 use Rattle.std.proofs.iter.runs.Sources.{range_runs}
 
-module _ {F B : Type 0} (g : Mut F (ℕ × Unit {0}) (Option B)) (s : Range ℕ) (n : ℕ) (f : F) (Misses : ℕ → Type 0) (Gives : ℕ → B → Type 0) (start : s.start ≡ 0) (end : s.end ≡ n) (keeps : CallKeepsClosure g f) (miss : (x : ℕ) → Called g f (x, tt) None f → Misses x) (give : (x : ℕ) (y : B) → Called g f (x, tt) (Some y) f → Gives x y) where
+module _ {F B : Type 0} (g : Mut F (ℕ × Unit {0}) (Option B)) (s : Range ℕ) (n : ℕ) (f : F) (Misses : ℕ → Type 0)
+    (Gives : ℕ → B → Type 0) (start : s.start ≡ 0) (end : s.end ≡ n) (keeps : CallKeepsClosure g f)
+    (miss : (x : ℕ) → Called g f (x, tt) None f → Misses x) (give : (x : ℕ) (y : B) → Called g f (x, tt) (Some y) f → Gives x y)
+    where
   counts : (u : Run nat_range_steps) → u.from ≡ s → ItemsCountUp u 0 n
   counts u from =
       let first : u.from.start ≡ 0 = ap (λ (r : Range ℕ). r.start) from ∙ start in
@@ -16,7 +19,9 @@ module _ {F B : Type 0} (g : Mut F (ℕ × Unit {0}) (Option B)) (s : Range ℕ)
       rw (← first, ← last) (range_runs u u.seen)
 
   -- none of the numbers gives anything, or the first that does gives what was found
-  pub first_given : (r : Option B) → SomeRun nat_range_steps s (λ p. MatchOption r (IsTrue p.whole × AllItemsGive p g f None) (λ y. (i : ℕ) × (i < p.len) × (p.len ≡ i + 1) × IsFirstToGive p g f (Some y) None i)) → MatchOption r ((k : ℕ) → k < n → Misses k) (λ y. (x : ℕ) × (x < n) × Gives x y × ((k : ℕ) → k < x → Misses k))
+  pub first_given : (r : Option B)
+      → SomeRun nat_range_steps s (λ p. MatchOption r (IsTrue p.whole × AllItemsGive p g f None) (λ y. (i : ℕ) × (i < p.len) × (p.len ≡ i + 1) × IsFirstToGive p g f (Some y) None i))
+      → MatchOption r ((k : ℕ) → k < n → Misses k) (λ y. (x : ℕ) × (x < n) × Gives x y × ((k : ℕ) → k < x → Misses k))
   first_given None (u, from, (whole, none)) = λ k below.
       let up = counts u from in
       let all : u.len ≡ n - 0 = up.1 (search rules) in

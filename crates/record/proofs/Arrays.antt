@@ -7,7 +7,8 @@ use Rattle.std.specs.Array.{IsFromFnResult, IsFromFnResultFrom}
 use Rattle.std.proofs.lemmas.Bool.{cases_eq}
 use Rattle.std.proofs.lemmas.List.FromFn.{fill_by_all}
 
-module _ {F : Type 0} (g : Mut F (ℕ × Unit {0}) ℕ) (f : F) (h : ℕ → ℕ) (n : ℕ) (ys : List ℕ) (says : (i y : ℕ) (q : F) → i < n → Called g f (i, tt) y q → (y ≡ h i) × (q ≡ f)) where
+module _ {F : Type 0} (g : Mut F (ℕ × Unit {0}) ℕ) (f : F) (h : ℕ → ℕ) (n : ℕ) (ys : List ℕ)
+    (says : (i y : ℕ) (q : F) → i < n → Called g f (i, tt) y q → (y ≡ h i) × (q ≡ f)) where
   each_is : (m a : ℕ) (p : F) → a + m ≡ n → p ≡ f → IsFromFnResultFrom g p ys a m → (k : ℕ) → a ≤ k → k < n → get_or ys k 0 ≡ h k
   each_is zero a p e same made k lo hi = absurd (omega arith)
   each_is (suc m) a p e same (q, y, at, call, made) k lo hi =

@@ -52,7 +52,8 @@ module _ (d : Draft) where
   before_cell numbered Cell j l a = omega arith
   before_cell numbered Neighbour j l a = omega arith
 
-  pub last_validated : (r : Result Unit EntryFault) → ((k : ℕ) → HasFlaw d Carrier k → ⊥) → ((k : ℕ) → HasFlaw d Cell k → ⊥) → Searched d Neighbour r → Validated d r
+  pub last_validated : (r : Result Unit EntryFault) → ((k : ℕ) → HasFlaw d Carrier k → ⊥) → ((k : ℕ) → HasFlaw d Cell k → ⊥)
+      → Searched d Neighbour r → Validated d r
   last_validated (Ok u) numbered placed near = sound
     where
       sound : Sound d

@@ -2,6 +2,7 @@ pub mod Arrays
 pub mod Layers
 pub mod Loads
 pub mod Together
+pub mod Parts
 pub mod Ranges
 pub mod Steps
 pub mod Sound

@@ -18,7 +18,8 @@ module _ (b : List ℕ) (n : ℕ) where
   past : (i j : ℕ) → i ≡ j → drop i b ≡ drop j b
   past i j e = ap (λ m. drop m b) e
 
-  pub left_first : (at : ℕ) (from carriers cells : List ℕ) → length b ≡ 8 + 3 * n → at ≡ n → from ≡ drop 8 b → carriers ≡ take at from → cells ≡ drop at from → Left b n 0 carriers cells
+  pub left_first : (at : ℕ) (from carriers cells : List ℕ) → length b ≡ 8 + 3 * n → at ≡ n → from ≡ drop 8 b
+      → carriers ≡ take at from → cells ≡ drop at from → Left b n 0 carriers cells
   left_first at from carriers cells whole e all front back =
       let tail : cells ≡ drop (8 + n) b = back ∙ (λ i. drop (e i) (all i)) ∙ drop-drop n 8 b in
       record {
@@ -65,14 +66,17 @@ module _ (b : List ℕ) (n : ℕ) where
           }
 
     -- a turn of the loop
-    module _ (carriers cells : List ℕ) (x : ℕ) (pair rest_carriers rest_cells : List ℕ) (left : Left b n k carriers cells) (e : carriers ≡ x ∷ rest_carriers) (f : cells ≡ pair ++ rest_cells) (two : length pair ≡ 2) where
+    module _ (carriers cells : List ℕ) (x : ℕ) (pair rest_carriers rest_cells : List ℕ) (left : Left b n k carriers cells)
+        (e : carriers ≡ x ∷ rest_carriers) (f : cells ≡ pair ++ rest_cells) (two : length pair ≡ 2) where
       split : Left b n k (x ∷ rest_carriers) (pair ++ rest_cells)
       split = rw (← e, ← f) left
 
       pub more : Left b n (k + 1) rest_carriers rest_cells
       more = left_more x rest_carriers pair rest_cells two split
 
-      pub more_read : (before after : List Entry) (cell : ℕ) → header b Entries ≡ n → before ≡ map (entry_at b) (range_with_len 0 k) → cell ≡ word pair 0 → after ≡ before ++ record { carrier = x; cell = cell } ∷ [] → after ≡ map (entry_at b) (range_with_len 0 (k + 1))
+      pub more_read : (before after : List Entry) (cell : ℕ) → header b Entries ≡ n
+          → before ≡ map (entry_at b) (range_with_len 0 k) → cell ≡ word pair 0
+          → after ≡ before ++ record { carrier = x; cell = cell } ∷ [] → after ≡ map (entry_at b) (range_with_len 0 (k + 1))
       more_read before after cell stated was is push =
           push
           ∙ (λ i. was i ++ record { carrier = carrier_read x rest_carriers pair rest_cells two split i; cell = (is ∙ cell_read x rest_carriers pair rest_cells two split stated) i } ∷ [])

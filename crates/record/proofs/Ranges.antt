@@ -19,7 +19,10 @@ pub and_at : (o : Option ℕ) (n : ℕ) (Q : ℕ → Type 0) → option_map (λ 
 and_at None n Q e h = absurd h
 and_at (Some x) n Q e h = let same : x ≡ n = cc in subst Q same h
 
-module _ {F : Type 0} (g : Mut F (Bor ℕ × Unit {0}) Bool) (s : RangeInclusive ℕ) (n : ℕ) (f : F) (P : ℕ → Type 0) (start : range_inclusive_start s ≡ 0) (end : range_inclusive_end s ≡ n) (fresh : range_inclusive_exhausted s ≡ false) (keeps : CallKeepsClosure g f) (yes : (x : ℕ) → CalledAt g f x true f → P x) (no : (x : ℕ) → CalledAt g f x false f → P x → ⊥) where
+module _ {F : Type 0} (g : Mut F (Bor ℕ × Unit {0}) Bool) (s : RangeInclusive ℕ) (n : ℕ) (f : F) (P : ℕ → Type 0)
+    (start : range_inclusive_start s ≡ 0) (end : range_inclusive_end s ≡ n) (fresh : range_inclusive_exhausted s ≡ false)
+    (keeps : CallKeepsClosure g f) (yes : (x : ℕ) → CalledAt g f x true f → P x) (no : (x : ℕ) → CalledAt g f x false f → P x → ⊥)
+    where
   -- the numbers of a run
   counts : (u : Run nat_range_inclusive_steps) → u.from ≡ s → ItemsCountUp u 0 (n + 1)
   counts u from =
@@ -28,7 +31,9 @@ module _ {F : Type 0} (g : Mut F (Bor ℕ × Unit {0}) Bool) (s : RangeInclusive
       let last : b ≡ n + 1 = eb ∙ ap (λ t. range_inclusive_end t + 1) from ∙ ap (λ k. k + 1) end in
       rw (← first, ← last) (count (ap range_inclusive_exhausted from ∙ fresh)).0
 
-  pub first_to : (r : Option ℕ) → SomeRun nat_range_inclusive_steps s (λ u. MatchOption r (IsTrue u.whole × NoItemPasses u g f) (EndsAtFirstPassing u g f)) → MatchOption r ((k : ℕ) → k ≤ n → P k → ⊥) (λ i. (i ≤ n) × First ◌<◌ P i)
+  pub first_to : (r : Option ℕ)
+      → SomeRun nat_range_inclusive_steps s (λ u. MatchOption r (IsTrue u.whole × NoItemPasses u g f) (EndsAtFirstPassing u g f))
+      → MatchOption r ((k : ℕ) → k ≤ n → P k → ⊥) (λ i. (i ≤ n) × First ◌<◌ P i)
   first_to None (u, from, (whole, none)) = λ k most.
       let up = counts u from in
       let all : u.len ≡ n + 1 - 0 = up.1 (search rules) in

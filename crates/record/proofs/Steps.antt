@@ -1,6 +1,6 @@
 -- Paths, one entry after another.
 use Rattle.std.proofs.Common.{◌≡◌, ℕ, ◌+◌, ◌<◌, ◌≤◌, Bool, cond, eqb, List, [], ◌∷◌, ◌++◌, map, length, take, filter, ap, ◌∙◌}
-use Rattle.std.proofs.lemmas.List.{length-map, map-append, append-nil, take_more}
+use Rattle.std.proofs.lemmas.List.{length-map, map-append, append-nil}
 use Rattle.std.proofs.lemmas.List.Elements.{filter_more}
 use Rattle.std.proofs.lemmas.List.Sums.{length-filter, count_by-le-length}
 use Rattle.std.proofs.lemmas.Bool.{eq-eqb, ne_eqb}
@@ -28,9 +28,3 @@ module _ (es : List Entry) (k : ℕ) (within : k < length es) where
 
   pub path_other : (i : ℕ) → ((entry es k).carrier ≡ i → ⊥) → path (take (k + 1) es) i ≡ path (take k es) i
   path_other i n = path_more i ∙ ap (λ t. path (take k es) i ++ map (λ e. e.cell) (cond t (entry es k ∷ []) [])) (ne_eqb _ _ n) ∙ append-nil _
-
--- the cells of one entry more
-pub cells_more : (es : List Entry) (k : ℕ) → k < length es → map (λ e. e.cell) (take (k + 1) es) ≡ map (λ e. e.cell) (take k es) ++ (entry es k).cell ∷ []
-cells_more es k h =
-    ap (map (λ (e : Entry). e.cell)) (take_more es k no_entry h)
-    ∙ map-append {A = Entry} (λ e. e.cell) (take k es) (entry es k ∷ [])

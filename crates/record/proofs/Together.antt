@@ -70,7 +70,9 @@ module _ (es : List Entry) (c : ℕ) (rises : IsNonDecreasingBy (λ e. e.carrier
   pub below_parted : IsPartitionedBy (λ e. nat_lt e.carrier c) es
   below_parted i j d le within h = lt-ltb _ _ (omega (arith, ltb-true _ _ h, rises i j d le within))
 
-  module _ (s : ℕ) (most : s ≤ length es) (starts : IsPartitionPoint (λ e. nat_lt e.carrier c ≡ true) (λ e. nat_lt e.carrier c ≡ false) es s) (rest : List Entry) (is : rest ≡ drop s es) where
+  module _ (s : ℕ) (most : s ≤ length es)
+      (starts : IsPartitionPoint (λ e. nat_lt e.carrier c ≡ true) (λ e. nat_lt e.carrier c ≡ false) es s) (rest : List Entry)
+      (is : rest ≡ drop s es) where
     at : (k : ℕ) (d : Entry) → slice_index_or rest k d ≡ slice_index_or es (s + k) d
     at k d = ap (λ l. slice_index_or l k d) is ∙ get_or-drop s es k d
 
@@ -90,7 +92,9 @@ module _ (es : List Entry) (c : ℕ) (rises : IsNonDecreasingBy (λ e. e.carrier
     early : (k : ℕ) (d : Entry) → k < s → (slice_index_or (take s es) k d).carrier == c ≡ false
     early k d h = rw (get_or-take s es k d h) (ne_eqb _ _ (λ e. omega (arith, ltb-true _ _ (starts.0 k d (omega arith) h))))
 
-    pub together : (n : ℕ) → n ≤ length rest → IsPartitionPoint (λ e. (e.carrier == c) ≡ true) (λ e. (e.carrier == c) ≡ false) rest n → take n rest ≡ filter (λ e. e.carrier == c) es
+    pub together : (n : ℕ) → n ≤ length rest
+        → IsPartitionPoint (λ e. (e.carrier == c) ≡ true) (λ e. (e.carrier == c) ≡ false) rest n
+        → take n rest ≡ filter (λ e. e.carrier == c) es
     together n within ends =
         let none : filter (λ e. e.carrier == c) (take s es) ≡ [] = filter_none (λ (e : Entry). e.carrier == c) (take s es) (λ k d l u. early k d (omega (arith, length-take-le s es most))) in
         sym (

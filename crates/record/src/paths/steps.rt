@@ -9,18 +9,13 @@ use crate::entry::Entry;
 use crate::header::Header;
 use std::array;
 
-/// How many entries of a path are visits.
+/// How many entries of a path are visits: as many as there are runs of entries in one cell.
 fn visits_on(path: &[Entry]) -> u16
     requires { length path.now ≤ 512 }
     ensures { result ≡ visit_count (map (λ e. e.cell) path.now) }
 {
-    let mut count = 0;
-    let mut last = None;
-    for entry in path {
-        count += u16::from(last != Some(entry.cell));
-        last = Some(entry.cell);
-    }
-    count
+    path.chunk_by(|before, after| before.cell == after.cell)
+        .count() as u16
 }
 
 impl Paths {
