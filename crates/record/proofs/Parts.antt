@@ -58,17 +58,21 @@ part_counts (e ∷ es) r o last some all enters =
     entered None u = refl
     entered (Some before) other = ap not (sym (ne_eqb before e.cell other))
 
+-- the cell changes between two parts
+abbrev Changes : List Entry → List Entry → Type 0
+Changes x y = (d : Entry) → (slice_index_or x (length x - 1) d).cell == (slice_index_or y 0 d).cell ≡ false
+
 -- what the parts of a path are like
 module _ (items : List (Bor (List Entry))) where
   abbrev Cut : Type 0
   Cut = ((k : ℕ) → IfSome (slice_get items k) (λ x. 0 < length x.now)) × ((k : ℕ) → IfSome (slice_get items k) (λ x. OneCell x.now))
-      × ((k : ℕ) → IfSome (slice_get items (suc k)) (λ y. IsSomeAnd (slice_get items k) (λ x. (d : Entry) → (slice_index_or x.now (length x.now - 1) d).cell == (slice_index_or y.now 0 d).cell ≡ false)))
+      × ((k : ℕ) → IfSome (slice_get items (suc k)) (λ y. IsSomeAnd (slice_get items k) (λ x. Changes x.now y.now)))
 
   abbrev StartsAnew : Option ℕ → Type 0
   StartsAnew o = IfSome (slice_get items 0) (λ y. MatchOption o (Unit {0}) (λ before. before ≡ (slice_index_or y.now 0 no_entry).cell → ⊥))
 
 anew_after : (x : List Entry) (next : Option (Bor (List Entry)))
-    → IfSome next (λ y. (d : Entry) → (slice_index_or x (length x - 1) d).cell == (slice_index_or y.now 0 d).cell ≡ false)
+    → IfSome next (λ y. Changes x y.now)
     → IfSome next (λ y. (slice_index_or x (length x - 1) no_entry).cell ≡ (slice_index_or y.now 0 no_entry).cell → ⊥)
 anew_after x None h = tt
 anew_after x (Some y) h = eqb-false _ _ (h no_entry)
@@ -82,8 +86,11 @@ counted : (items : List (Bor (List Entry))) (r : List ℕ) (o : Option ℕ) → 
 counted [] r o last cut anew = ap visit_count (append-nil r) ∙ sym (add-zero _)
 counted (x ∷ xs) r o last (some, all, between) anew =
     let (here, end) = part_counts x.now r o last (some zero) (all zero) anew in
-    let next = counted xs (r ++ cells x.now) (Some (slice_index_or x.now (length x.now - 1) no_entry).cell) (end no_entry) ((λ k. some (suc k)), (λ k. all (suc k)), (λ k. between (suc k))) (anew_after x.now (slice_get xs 0) (between zero)) in
-    let join : (r ++ cells x.now) ++ cells (flat_map (λ x. x.now) xs) ≡ r ++ cells (x.now ++ flat_map (λ x. x.now) xs) = append_assoc r (cells x.now) _ ∙ ap (λ l. r ++ l) (sym (map-append {A = Entry} (λ e. e.cell) x.now (flat_map (λ x. x.now) xs))) in
+    let next =
+    counted xs (r ++ cells x.now) (Some (slice_index_or x.now (length x.now - 1) no_entry).cell) (end no_entry)
+    ((λ k. some (suc k)), (λ k. all (suc k)), (λ k. between (suc k))) (anew_after x.now (slice_get xs 0) (between zero)) in
+    let join : (r ++ cells x.now) ++ cells (flat_map (λ x. x.now) xs) ≡ r ++ cells (x.now ++ flat_map (λ x. x.now) xs) =
+    append_assoc r (cells x.now) _ ∙ ap (λ l. r ++ l) (sym (map-append {A = Entry} (λ e. e.cell) x.now (flat_map (λ x. x.now) xs))) in
     let one_more : visit_count (r ++ cells x.now) + length xs ≡ visit_count r + length (x ∷ xs) = omega (arith, here) in
     ap visit_count (sym join) ∙ next ∙ one_more
 
@@ -94,14 +101,14 @@ visits_are_parts items path cut e = sym (ap (λ l. visit_count (cells l)) e ∙ 
 -- what `chunk_by` says of its items
 module _ {S : Type 0} {steps : S → Option (Bor (List Entry)) → S → Type 0} (p : Run steps) (n : ℕ) where
   pub parts : AllItems p (λ x. (0 < length x.now) × (length x.now ≤ n)) → AllItems p (λ x. OneCell x.now)
-      → ((k : ℕ) → 0 < k → IfSome (p.at k) (λ y. IsSomeAnd (p.at (k - 1)) (λ x. (d : Entry) → (slice_index_or x.now (length x.now - 1) d).cell == (slice_index_or y.now 0 d).cell ≡ false)))
+      → ((k : ℕ) → 0 < k → IfSome (p.at k) (λ y. IsSomeAnd (p.at (k - 1)) (λ x. Changes x.now y.now)))
       → Cut p.items
   parts some all between = (
     λ k. first (slice_get p.items k) (at k (λ x. (0 < length x.now) × (length x.now ≤ n)) (some k)),
     λ k. at k (λ x. OneCell x.now) (all k),
     λ k.
         let here : p.at (suc k - 1) ≡ slice_get p.items k = ap p.at (omega arith) ∙ at-is p k in
-        subst (λ (o : Option (Bor (List Entry)) × Option (Bor (List Entry))). IfSome o.0 (λ y. IsSomeAnd o.1 (λ x. (d : Entry) → (slice_index_or x.now (length x.now - 1) d).cell == (slice_index_or y.now 0 d).cell ≡ false)))
+        subst (λ (o : Option (Bor (List Entry)) × Option (Bor (List Entry))). IfSome o.0 (λ y. IsSomeAnd o.1 (λ x. Changes x.now y.now)))
         (λ i. (at-is p (suc k) i, here i)) (between (suc k) (omega arith)),
   )
     where
