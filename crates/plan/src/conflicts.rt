@@ -19,7 +19,6 @@ impl Moment {
         }
     }
 
-    // A kind is a value and no closure: the fault carries it, and the contracts speak of it.
     /// Whether two carriers are in conflict.
     fn meets(&self, kind: Conflict, first: u8, second: u8) -> bool
         requires first_known { first < self.now.carriers }
@@ -29,6 +28,7 @@ impl Moment {
         let earlier = &self.earlier;
         let later = &self.later;
         let (first, second) = (usize::from(first), usize::from(second));
+        // A kind is a value and no closure: the fault carries it, and the contracts speak of it.
         match kind {
             Conflict::Clash => first < second && later[first] == later[second],
             Conflict::Following => {
