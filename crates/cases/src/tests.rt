@@ -371,6 +371,6 @@ fn entries_end_at_512(rt: HostRuntime) -> Result<(), Fail> {
 
 #[test]
 fn a_record_alone_has_its_own_length(rt: HostRuntime) {
-    let fault = Plan::read(&[1, 0, 1, 0, 1, 0, 1, 0, 0, 0, 0, 128]).err();
+    let fault = Plan::try_from(&[1, 0, 1, 0, 1, 0, 1, 0, 0, 0, 0, 128][..]).err();
     assert_eq!(rt; fault.map_or(0, |fault| Report::from(fault).number), 3);
 }

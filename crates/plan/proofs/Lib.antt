@@ -1,3 +1,4 @@
 pub mod Moments
 pub mod Only
+pub mod Ranges
 pub mod Verdicts

@@ -36,3 +36,8 @@ Judged b v = Verdict number_of (Applies b) (λ d. d ≡ draft b) v
 -- b has no verdict but v
 abbrev pub Only : List ℕ → Result Draft PlanFault → Type 0
 Only b v = (w : Result Draft PlanFault) → Judged b w → w ≡ v
+
+-- v is the one verdict on a record's bytes b
+pub record IsVerdict (b : List ℕ) (v : Result Draft PlanFault) : Type 0 where
+  pub judged : Judged b v
+  pub only : Only b v

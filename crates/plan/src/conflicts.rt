@@ -1,81 +1,85 @@
-ghost use Rattle.std.specs.Prelude.{◌≡◌, ◌-◌, ◌<◌, map, length, Decides};
-ghost use Rattle.std.specs.List.{range_with_len};
+ghost use Rattle.std.specs.Prelude.{◌≡◌, ◌<◌, ◌↔◌, length, IsTrue};
 ghost use Rattle.record.specs.Paths.{paths_draft};
-ghost use Rattle.record.specs.Steps.{cell};
-ghost use Rattle.plan.specs.Searches.{Meets, Lowest, LowestPair, Soonest};
+ghost use Rattle.plan.specs.Searches.{IsMoment, Meets, Lowest, LowestPair, FirstAt, Soonest};
 
+use crate::moment::Moment;
 use fault::kinds::{Conflict, Meeting};
-use record::MAX_CARRIERS;
 use record::paths::Paths;
+use std::ops::Range;
 
-/// Whether two carriers are in conflict, by the cells of all carriers at a step and the step
-/// before it.
-fn meets(kind: Conflict, earlier: &[u16], later: &[u16], first: usize, second: usize) -> bool
-    requires { (length earlier.now ≡ length later.now) × (first < length later.now) × (second < length later.now) }
-    ensures { Decides result (Meets kind earlier.now later.now first second) }
-{
-    match kind {
-        Conflict::Clash => first < second && later[first] == later[second],
-        Conflict::Following => {
-            first != second && later[first] == earlier[second] && later[first] != earlier[first]
+impl Moment {
+    /// The moment of a step. Nothing comes before step 0, so there the step before is the same.
+    fn at(paths: &Paths, step: u16) -> Moment
+        ensures { IsMoment (paths_draft paths.now) step result }
+    {
+        Moment {
+            earlier: paths.cells_at(step.saturating_sub(1)),
+            later: paths.cells_at(step),
+            carriers: paths.header().carriers,
         }
+    }
+
+    /// Whether two carriers are in conflict.
+    fn meets(&self, kind: Conflict, first: u8, second: u8) -> bool
+        requires first_known { first < self.now.carriers }
+        requires second_known { second < self.now.carriers }
+        ensures { IsTrue result ↔ Meets kind self.now first second }
+    {
+        let earlier = &self.earlier;
+        let later = &self.later;
+        let (first, second) = (usize::from(first), usize::from(second));
+        // A kind is a value and no closure: the fault carries it, and the contracts speak of it.
+        match kind {
+            Conflict::Clash => first < second && later[first] == later[second],
+            Conflict::Following => {
+                first != second && later[first] == earlier[second] && later[first] != earlier[first]
+            }
+        }
+    }
+
+    /// The lowest carrier that `first` is in conflict with.
+    fn lowest_second(&self, kind: Conflict, first: u8) -> Option<u8>
+        requires { first < self.now.carriers }
+        ensures { Lowest self.now.carriers (Meets kind self.now first) result }
+    {
+        (0..self.carriers).find(|&second| self.meets(kind, first, second))
+    }
+
+    /// The lowest pair of carriers in conflict.
+    fn lowest_pair(&self, kind: Conflict) -> Option<(u8, u8)>
+        ensures { LowestPair self.now.carriers (Meets kind self.now) result }
+    {
+        (0..self.carriers).find_map(|first| {
+            self.lowest_second(kind, first)
+                .map(|second| (first, second))
+        })
     }
 }
 
-/// The lowest carrier that `first` is in conflict with.
-fn lowest_second(kind: Conflict, earlier: &[u16], later: &[u16], first: usize) -> Option<usize>
-    requires { (length earlier.now ≡ length later.now) × (first < length later.now) }
-    ensures { Lowest (length later.now) (Meets kind earlier.now later.now first) result }
+/// The first conflict of a kind at a step.
+fn first_at(paths: &Paths, kind: Conflict, step: u16) -> Option<Meeting>
+    ensures { FirstAt (paths_draft paths.now) kind step result }
 {
-    for second in 0..later.len() {
-        if meets(kind, earlier, later, first, second) {
-            return Some(second);
-        }
-    }
-    None
+    let (first, second) = Moment::at(paths, step).lowest_pair(kind)?;
+    Some(Meeting {
+        step,
+        first,
+        second,
+    })
 }
 
-/// The lowest pair of carriers in conflict.
-fn lowest_pair(kind: Conflict, earlier: &[u16], later: &[u16]) -> Option<(usize, usize)>
-    requires { length earlier.now ≡ length later.now }
-    ensures { LowestPair (length later.now) (Meets kind earlier.now later.now) result }
+/// The steps at which a conflict can be the soonest: no path is longer than all entries together,
+/// so later steps bring nothing new.
+fn steps(paths: &Paths) -> Range<u16>
+    ensures start { result.start ≡ 0 }
+    ensures end { result.end ≡ length (paths_draft paths.now).entries }
 {
-    for first in 0..later.len() {
-        if let Some(second) = lowest_second(kind, earlier, later, first) {
-            return Some((first, second));
-        }
-    }
-    None
+    0..paths.header().entries
 }
 
-/// The carriers' cells a step before; nothing comes before step 0, so there they are the same.
-fn cells_before(paths: &Paths, step: u16) -> [u16; MAX_CARRIERS]
-    ensures { result ≡ map (λ i. cell (paths_draft paths.now) i (step - 1)) (range_with_len 0 16) }
-{
-    paths.cells_at(step.saturating_sub(1))
-}
-
-/// The soonest conflict of a kind. No path is longer than all entries together, so later steps
-/// bring nothing new.
+/// The soonest conflict of a kind.
 pub(crate) fn soonest(paths: &Paths, kind: Conflict) -> Option<Meeting>
     ensures { Soonest (paths_draft paths.now) kind result }
 {
-    let header = paths.header();
-    let carriers = header.carriers as usize;
-    for step in 0..header.entries {
-        let earlier = cells_before(paths, step);
-        let later = paths.cells_at(step);
-        if let Some((first, second)) = lowest_pair(
-            kind,
-            &earlier[0..carriers],
-            &later[0..carriers],
-        ) {
-            return Some(Meeting {
-                step,
-                first: first as u8,
-                second: second as u8,
-            });
-        }
-    }
-    None
+    steps(paths).find_map(|step| first_at(paths, kind, step))
 }

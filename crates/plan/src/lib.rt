@@ -3,3 +3,4 @@
 
 pub mod accepted;
 mod conflicts;
+mod moment;

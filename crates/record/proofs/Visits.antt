@@ -13,11 +13,6 @@ use Rattle.record.specs.Steps.{visit_at, visit_count}
 abbrev one : Bool → ℕ
 one b = cond b 1 0
 
--- the number that code makes of a test
-pub byte_le : (b : Bool) → bool_byte b ≤ 1
-byte_le true = omega arith
-byte_le false = omega arith
-
 one_is : (b : Bool) → one b ≡ bool_byte b
 one_is true = refl
 one_is false = refl

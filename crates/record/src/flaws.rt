@@ -1,37 +1,12 @@
-ghost use Rattle.std.specs.Prelude.{◌≡◌, ◌*◌, ◌<◌, ◌≤◌, length, Decides};
-ghost use Rattle.fault.specs.declared.kinds.Flaw.TheVariants.{Carrier};
-ghost use Rattle.record.specs.Headers.{draft_of};
+ghost use Rattle.std.specs.Prelude.{◌≡◌, ◌*◌, ◌<◌, ◌≤◌, ◌↔◌, length, IsTrue, Option};
+ghost use Rattle.std.specs.Option.{ForSome};
+ghost use Rattle.fault.specs.declared.kinds.Flaw.TheVariants.{Carrier, Cell, Neighbour};
 ghost use Rattle.record.specs.Entries.{FollowsOn, HasFlaw, distance};
-ghost use Rattle.record.specs.Searches.{Searched, Validated};
+ghost use Rattle.record.specs.Searches.{listed, Found, refusal, Validated};
 
 use crate::entry::Entry;
-use crate::header::Header;
+use crate::listing::Listing;
 use fault::kinds::{EntryFault, Flaw};
-
-/// Whether the carrier number at `k` is 0 at first, and later the one before it or one more.
-fn follows_on(entries: &[Entry], k: usize) -> bool
-    requires { k < length entries.now }
-    ensures { Decides result (FollowsOn entries.now k) }
-{
-    let carrier = entries[k].carrier;
-    if k == 0 {
-        return carrier == 0;
-    }
-    let before = entries[k - 1].carrier;
-    carrier == before || (carrier > 0 && carrier - 1 == before)
-}
-
-/// Whether the carrier number at `k` is out of turn or too high; past the last entry, whether the
-/// last is too low.
-fn misnumbered(header: &Header, entries: &[Entry], k: usize) -> bool
-    requires { (0 < length entries.now) × (k ≤ length entries.now) }
-    ensures { Decides result (HasFlaw (draft_of header.now entries.now) Carrier k) }
-{
-    if k == entries.len() {
-        return entries[k - 1].carrier != header.carriers - 1;
-    }
-    !follows_on(entries, k) || entries[k].carrier >= header.carriers
-}
 
 /// The rows and columns between two cells, added up.
 fn distance(width: u8, a: u16, b: u16) -> u32
@@ -44,54 +19,89 @@ fn distance(width: u8, a: u16, b: u16) -> u32
     u32::from(rows) + u32::from(columns)
 }
 
-/// Whether a cell is not on the floor.
-fn off_floor(header: &Header, cell: u16) -> bool
-    ensures { Decides result (header.now.width * header.now.height ≤ cell) }
-{
-    cell >= u16::from(header.width) * u16::from(header.height)
-}
-
 /// Whether a carrier's entry is neither in the cell of its entry before nor beside it.
 fn jumps(width: u8, before: Entry, after: Entry) -> bool
     requires { 1 ≤ width }
-    ensures { Decides result ((before.carrier ≡ after.carrier) × (1 < distance width before.cell after.cell)) }
+    ensures { IsTrue result ↔ ((before.carrier ≡ after.carrier)
+        × (1 < distance width before.cell after.cell)) }
 {
     before.carrier == after.carrier && distance(width, before.cell, after.cell) > 1
 }
 
-/// Whether the entry at `k` has the flaw.
-fn flawed(header: &Header, entries: &[Entry], flaw: Flaw, k: usize) -> bool
-    requires { (0 < length entries.now) × (k ≤ length entries.now) }
-    ensures { Decides result (HasFlaw (draft_of header.now entries.now) flaw k) }
+/// Refuses entries for the flaw at the index where it was found, if it was.
+fn refuse(flaw: Flaw, at: Option<usize>) -> Result<(), EntryFault>
+    requires { ForSome at (λ k. k ≤ 512) }
+    ensures { result ≡ refusal flaw at }
 {
-    match flaw {
-        Flaw::Carrier => misnumbered(header, entries, k),
-        Flaw::Cell => k < entries.len() && off_floor(header, entries[k].cell),
-        Flaw::Neighbour => 0 < k
-            && k < entries.len()
-            && jumps(header.width, entries[k - 1], entries[k]),
-    }
+    at.map_or(Ok(()), |k| Err(EntryFault::Flawed(flaw, k as u16)))
 }
 
-/// Refuses entries that have the flaw, at the first index where they do.
-fn judge(header: &Header, entries: &[Entry], flaw: Flaw) -> Result<(), EntryFault>
-    requires { (0 < length entries.now) × (length entries.now ≤ 512) }
-    ensures { Searched (draft_of header.now entries.now) flaw result }
-{
-    for k in 0..=entries.len() {
-        if flawed(header, entries, flaw, k) {
-            return Err(EntryFault::Flawed(flaw, k as u16));
+impl Listing<'_> {
+    /// Whether the carrier number at `k` is 0 at first, and later the one before it or one more.
+    fn follows_on(&self, k: usize) -> bool
+        requires { k < length self.now.entries.now }
+        ensures { IsTrue result ↔ FollowsOn self.now.entries.now k }
+    {
+        let carrier = self.entries[k].carrier;
+        if k == 0 {
+            return carrier == 0;
         }
+        let before = self.entries[k - 1].carrier;
+        carrier == before || (carrier > 0 && carrier - 1 == before)
     }
-    Ok(())
-}
 
-/// Refuses entries that have a flaw.
-pub(crate) fn validate(header: &Header, entries: &[Entry]) -> Result<(), EntryFault>
-    requires { (0 < length entries.now) × (length entries.now ≤ 512) }
-    ensures { Validated (draft_of header.now entries.now) result }
-{
-    judge(header, entries, Flaw::Carrier)?;
-    judge(header, entries, Flaw::Cell)?;
-    judge(header, entries, Flaw::Neighbour)
+    /// Whether the carrier number at `k` is out of turn or too high; past the last entry, whether
+    /// the last is too low.
+    fn misnumbered(&self, k: usize) -> bool
+        requires { k ≤ length self.now.entries.now }
+        ensures { IsTrue result ↔ HasFlaw (listed self.now) Carrier k }
+    {
+        if k == self.entries.len() {
+            return self.entries[k - 1].carrier != self.header.carriers - 1;
+        }
+        !self.follows_on(k) || self.entries[k].carrier >= self.header.carriers
+    }
+
+    /// Whether a cell is not on the floor.
+    fn off_floor(&self, cell: u16) -> bool
+        ensures { IsTrue result ↔ (self.now.header.width * self.now.header.height ≤ cell) }
+    {
+        cell >= u16::from(self.header.width) * u16::from(self.header.height)
+    }
+
+    /// Where the carrier numbers first break their rule.
+    fn first_misnumbered(&self) -> Option<usize>
+        ensures { Found (listed self.now) Carrier result }
+    {
+        (0..=self.entries.len()).find(|&k| self.misnumbered(k))
+    }
+
+    /// The first entry whose cell is not on the floor.
+    fn first_off_floor(&self) -> Option<usize>
+        ensures { Found (listed self.now) Cell result }
+    {
+        self.entries
+            .iter()
+            .position(|entry| self.off_floor(entry.cell))
+    }
+
+    /// The first entry that jumps, the later one of the two.
+    fn first_jump(&self) -> Option<usize>
+        ensures { Found (listed self.now) Neighbour result }
+    {
+        let width = self.header.width;
+        self.entries
+            .windows(2)
+            .position(|pair| jumps(width, pair[0], pair[1]))
+            .map(|before| before + 1)
+    }
+
+    /// Refuses entries that have a flaw.
+    pub(crate) fn validate(&self) -> Result<(), EntryFault>
+        ensures { Validated (listed self.now) result }
+    {
+        refuse(Flaw::Carrier, self.first_misnumbered())?;
+        refuse(Flaw::Cell, self.first_off_floor())?;
+        refuse(Flaw::Neighbour, self.first_jump())
+    }
 }

@@ -1,6 +1,6 @@
-ghost use Rattle.std.specs.Prelude.{◌≡◌, ◌+◌, ◌<◌, ◌≤◌, length, MatchResult};
+ghost use Rattle.std.specs.Prelude.{◌≡◌, ◌+◌, ◌<◌, ◌≤◌, ◌↔◌, length, IsOk, IfOk, IfErr, IsNone, IfSome};
 ghost use Rattle.fault.specs.Firsts.{Verdict};
-ghost use Rattle.record.specs.Layout.{word, header, front, rest, InRange, RecordApplies};
+ghost use Rattle.record.specs.Layout.{word, header, stated_length, front, rest, InRange, RecordApplies};
 ghost use Rattle.record.specs.Headers.{ReadsHeader, record_number};
 
 use crate::header::Header;
@@ -18,32 +18,59 @@ pub(crate) fn word(bytes: &[u8], at: usize) -> u16
     requires { at + 1 < length bytes.now }
     ensures { result ≡ word bytes.now at }
 {
-    u16::from(bytes[at]) + 256 * u16::from(bytes[at + 1])
+    u16::from_le_bytes([bytes[at], bytes[at + 1]])
 }
 
-/// A number of the header as it stands there.
-fn stated(bytes: &[u8], field: Field) -> u16
-    requires { 8 ≤ length bytes.now }
-    ensures { result ≡ header bytes.now field }
-{
-    word(bytes, 2 * usize::from(u16::from(field)))
+/// Bytes that are enough for a header.
+#[derive(Clone, Copy)]
+struct Head<'a> {
+    bytes: &'a [u8],
+    ghost enough: { 8 ≤ length bytes.now },
 }
 
-/// A number of the header, if it is in its range.
-fn number(bytes: &[u8], field: Field) -> Result<u16, RecordFault>
-    requires { 8 ≤ length bytes.now }
-    ensures { MatchResult result (λ n. (n ≡ header bytes.now field) × InRange bytes.now field) (λ e. (e ≡ RecordFault.Header field) × (InRange bytes.now field → ⊥)) }
-{
-    let value = stated(bytes, field);
-    let (least, most) = match field {
-        Field::Width | Field::Height => (1, MAX_SIDE as u16),
-        Field::Carriers => (1, MAX_CARRIERS as u16),
-        Field::Entries => (stated(bytes, Field::Carriers), MAX_ENTRIES as u16),
-    };
-    if value < least || value > most {
-        return Err(RecordFault::Header(field));
+impl Head<'_> {
+    fn new(bytes: &[u8]) -> Option<Head<'_>>
+        ensures short { IsNone result ↔ (length bytes.now < 8) }
+        ensures same { IfSome result (λ head. head.bytes.now ≡ bytes.now) }
+    {
+        if bytes.len() < HEADER_LEN {
+            return None;
+        }
+        Some(Head { bytes })
     }
-    Ok(value)
+
+    /// A number of the header as it stands there.
+    fn stated(&self, field: Field) -> u16
+        ensures { result ≡ header self.now.bytes.now field }
+    {
+        word(self.bytes, 2 * usize::from(u16::from(field)))
+    }
+
+    /// A number of the header, if it is in its range.
+    fn number(&self, field: Field) -> Result<u16, RecordFault>
+        ensures in_range { IsOk result ↔ InRange self.now.bytes.now field }
+        ensures value { IfOk result (λ n. n ≡ header self.now.bytes.now field) }
+        ensures fault { IfErr result (λ e. e ≡ RecordFault.Header field) }
+    {
+        let value = self.stated(field);
+        let range = match field {
+            Field::Width | Field::Height => 1..=MAX_SIDE as u16,
+            Field::Carriers => 1..=MAX_CARRIERS as u16,
+            Field::Entries => self.stated(Field::Carriers)..=MAX_ENTRIES as u16,
+        };
+        if range.contains(&value) {
+            Ok(value)
+        } else {
+            Err(RecordFault::Header(field))
+        }
+    }
+
+    /// How long the header says that the record is.
+    fn record_len(&self) -> usize
+        ensures { result ≡ stated_length self.now.bytes.now }
+    {
+        HEADER_LEN + ENTRY_LEN * usize::from(self.stated(Field::Entries))
+    }
 }
 
 /// The record at the front of some bytes, as long as its header says, and what follows it. Where
@@ -52,28 +79,26 @@ pub fn split_record(bytes: &[u8]) -> (&[u8], &[u8])
     ensures before { result.0.now ≡ front bytes.now }
     ensures after { result.1.now ≡ rest bytes.now }
 {
-    if bytes.len() >= HEADER_LEN {
-        let end = HEADER_LEN + ENTRY_LEN * stated(bytes, Field::Entries) as usize;
-        if end <= bytes.len() {
-            return bytes.split_at(end);
-        }
+    match Head::new(bytes) {
+        Some(head) => bytes.split_at(head.record_len().min(bytes.len())),
+        None => (bytes, &[]),
     }
-    bytes.split_at(bytes.len())
 }
 
-impl Header {
-    /// The header of a record that is as long as it says, or what is wrong with the record.
-    pub fn read(bytes: &[u8]) -> Result<Header, RecordFault>
-        ensures { Verdict record_number (RecordApplies bytes.now) (ReadsHeader bytes.now) result }
-    {
-        if bytes.len() < HEADER_LEN {
-            return Err(RecordFault::Short);
-        }
-        let width = number(bytes, Field::Width)?;
-        let height = number(bytes, Field::Height)?;
-        let carriers = number(bytes, Field::Carriers)?;
-        let entries = number(bytes, Field::Entries)?;
-        if bytes.len() != HEADER_LEN + ENTRY_LEN * entries as usize {
+/// The header of a record that is as long as it says, or what is wrong with the record.
+impl TryFrom<&[u8]> for Header {
+    type Error = RecordFault;
+
+    ghost try_from_gives = { λ bytes r.
+        Verdict record_number (RecordApplies bytes.now) (ReadsHeader bytes.now) r };
+
+    fn try_from(bytes: &[u8]) -> Result<Header, RecordFault> {
+        let head = Head::new(bytes).ok_or(RecordFault::Short)?;
+        let width = head.number(Field::Width)?;
+        let height = head.number(Field::Height)?;
+        let carriers = head.number(Field::Carriers)?;
+        let entries = head.number(Field::Entries)?;
+        if bytes.len() != head.record_len() {
             return Err(RecordFault::Length);
         }
         Ok(Header {

@@ -5,6 +5,7 @@ pub mod entry;
 mod flaws;
 pub mod header;
 pub mod layout;
+mod listing;
 pub mod paths;
 
 /// The most cells in a row or a column of a floor.

@@ -1,10 +1,12 @@
-ghost use Rattle.std.specs.Prelude.{◌≡◌, length, take};
+ghost use Rattle.std.specs.Prelude.{◌≡◌, length};
+ghost use Rattle.fixed.specs.Items.{items};
 ghost use Rattle.record.specs.Headers.{draft_of};
 ghost use Rattle.record.specs.Entries.{Sound};
 
 use crate::MAX_ENTRIES;
 use crate::entry::Entry;
 use crate::header::Header;
+use fixed::list::Bounded;
 
 pub mod reads;
 pub mod steps;
@@ -13,7 +15,7 @@ pub mod steps;
 #[derive(Clone, Copy)]
 pub struct Paths {
     header: Header,
-    entries: [Entry; MAX_ENTRIES],
-    ghost room: { length entries ≡ 512 },
-    ghost sound: { Sound (draft_of header (take header.entries entries)) },
+    entries: Bounded<Entry, MAX_ENTRIES>,
+    ghost counted: { length (items entries) ≡ header.entries },
+    ghost sound: { Sound (draft_of header (items entries)) },
 }

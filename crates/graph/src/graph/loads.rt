@@ -37,7 +37,7 @@ fn build(plan: Plan) -> Result<Graph, GraphFault>
 fn read_graph(bytes: &[u8]) -> Result<Graph, GraphFault>
     ensures { GraphJudged bytes.now (made_told result) }
 {
-    build(Plan::read(bytes)?)
+    build(Plan::try_from(bytes)?)
 }
 
 /// Puts a graph that was made in the place of another, or leaves that as it was.

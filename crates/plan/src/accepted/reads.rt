@@ -1,5 +1,5 @@
 ghost use Rattle.std.specs.Prelude.{◌≡◌};
-ghost use Rattle.plan.specs.Plans.{Accepted, told, Judged, Only};
+ghost use Rattle.plan.specs.Plans.{Accepted, told, IsVerdict};
 
 use super::Plan;
 use crate::conflicts::soonest;
@@ -20,16 +20,18 @@ fn accept(paths: Paths) -> Result<Plan, PlanFault>
     Ok(Plan { paths })
 }
 
-impl Plan {
-    /// The plan in a record's bytes, or the first fault of the record; the record has no other
-    /// verdict.
-    pub fn read(bytes: &[u8]) -> Result<Plan, PlanFault>
-        ensures judged { Judged bytes.now (told result) }
-        ensures only { Only bytes.now (told result) }
-    {
-        accept(Paths::read(bytes)?)
-    }
+/// The plan in a record's bytes, or the first fault of the record; the record has no other verdict.
+impl TryFrom<&[u8]> for Plan {
+    type Error = PlanFault;
 
+    ghost try_from_gives = { λ bytes r. IsVerdict bytes.now (told r) };
+
+    fn try_from(bytes: &[u8]) -> Result<Plan, PlanFault> {
+        accept(Paths::try_from(bytes)?)
+    }
+}
+
+impl Plan {
     /// The paths of the plan.
     pub fn paths(&self) -> &Paths
         ensures { result.now ≡ self.now.paths }

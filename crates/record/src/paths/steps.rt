@@ -1,46 +1,21 @@
-ghost use Rattle.std.specs.Prelude.{◌≡◌, ℕ, ◌<◌, ◌≤◌, map, length};
+ghost use Rattle.std.specs.Prelude.{◌≡◌, ℕ, ◌==◌, ◌≤◌, map, filter, length};
 ghost use Rattle.std.specs.List.{range_with_len};
-ghost use Rattle.record.specs.Entries.{entry};
 ghost use Rattle.record.specs.Paths.{paths_draft};
-ghost use Rattle.record.specs.Steps.{path, at_step, cell, visits, visit_count};
+ghost use Rattle.record.specs.Steps.{cell, visits, visit_count};
 
 use super::Paths;
 use crate::MAX_CARRIERS;
 use crate::entry::Entry;
 use crate::header::Header;
+use std::array;
 
-/// The cell of each carrier at a step, 0 for a carrier without entries.
-fn cells_in(entries: &[Entry], step: u16) -> [u16; MAX_CARRIERS]
-    requires few { length entries.now ≤ 512 }
-    requires known { (k : ℕ) → k < length entries.now → (entry entries.now k).carrier < 16 }
-    ensures { result ≡ map (λ i. at_step (path entries.now i) step) (range_with_len 0 16) }
+/// How many entries of a path are visits: as many as there are runs of entries in one cell.
+fn visits_on(path: &[Entry]) -> u16
+    requires { length path.now ≤ 512 }
+    ensures { result ≡ visit_count (map (λ e. e.cell) path.now) }
 {
-    let mut cells = [0; MAX_CARRIERS];
-    let mut seen = [0u16; MAX_CARRIERS];
-    for entry in entries {
-        let carrier = entry.carrier as usize;
-        if seen[carrier] <= step {
-            cells[carrier] = entry.cell;
-        }
-        seen[carrier] += 1;
-    }
-    cells
-}
-
-/// How many of the carrier's entries are visits.
-fn visits_in(entries: &[Entry], carrier: u8) -> u16
-    requires { length entries.now ≤ 512 }
-    ensures { result ≡ visit_count (path entries.now carrier) }
-{
-    let mut count = 0;
-    let mut last = None;
-    for entry in entries {
-        if entry.carrier == carrier {
-            count += u16::from(last != Some(entry.cell));
-            last = Some(entry.cell);
-        }
-    }
-    count
+    path.chunk_by(|before, after| before.cell == after.cell)
+        .count() as u16
 }
 
 impl Paths {
@@ -55,20 +30,44 @@ impl Paths {
     pub fn entries(&self) -> &[Entry]
         ensures { result.now ≡ (paths_draft self.now).entries }
     {
-        &self.entries[0..self.header.entries as usize]
+        self.entries.as_slice()
+    }
+
+    /// The entries of a carrier, which lie together; none for a carrier that the plan lacks.
+    fn path(&self, carrier: u8) -> &[Entry]
+        ensures own { result.now ≡ filter (λ e. e.carrier == carrier) (paths_draft self.now).entries }
+        ensures few { length result.now ≤ 512 }
+    {
+        if carrier >= self.header.carriers {
+            return &[];
+        }
+        let entries = self.entries();
+        let rest = &entries[entries.partition_point(|entry| entry.carrier < carrier)..];
+        &rest[..rest.partition_point(|entry| entry.carrier == carrier)]
+    }
+
+    /// The cell of a carrier at a step, 0 for a carrier that the plan lacks. After its last entry it
+    /// rests there.
+    fn cell_at(&self, carrier: u8, step: u16) -> u16
+        ensures { result ≡ cell (paths_draft self.now) carrier step }
+    {
+        let path = self.path(carrier);
+        path.get(usize::from(step))
+            .or(path.last())
+            .map_or(0, |entry| entry.cell)
     }
 
     /// The cell of each carrier at a step, 0 for a carrier that the plan lacks.
     pub fn cells_at(&self, step: u16) -> [u16; MAX_CARRIERS]
         ensures { result ≡ map (λ i. cell (paths_draft self.now) i step) (range_with_len 0 16) }
     {
-        cells_in(self.entries(), step)
+        array::from_fn(|carrier| self.cell_at(carrier as u8, step))
     }
 
     /// How many visits a carrier makes, 0 for a carrier that the plan lacks.
     pub fn visits(&self, carrier: u8) -> u16
         ensures { result ≡ visits (paths_draft self.now) carrier }
     {
-        visits_in(self.entries(), carrier)
+        visits_on(self.path(carrier))
     }
 }
