@@ -1,5 +1,6 @@
 -- What reading a record answers.
-use Rattle.std.specs.Prelude.{◌≡◌, ℕ, List, Ok, Err, Result}
+use Rattle.std.specs.Prelude.{◌≡◌, ℕ, List, Ok, Err, Result, MatchResult}
+use Rattle.fault.specs.declared.kinds.Conflict.{Conflict}
 use Rattle.fault.specs.declared.kinds.Conflict.TheVariants.{Clash, Following}
 use Rattle.fault.specs.declared.kinds.Meeting.{Meeting}
 use Rattle.fault.specs.declared.kinds.PlanFault.{PlanFault}
@@ -15,6 +16,12 @@ use Rattle.plan.specs.Conflicts.{InConflict, Applies}
 -- what a plan says
 abbrev pub plan_draft : Plan → Draft
 plan_draft p = paths_draft p.paths
+
+-- paths without a conflict of the kind pass, and others are refused for their soonest
+abbrev pub Refuses : Paths → Conflict → Result Unit PlanFault → Type 0
+Refuses paths kind r =
+    MatchResult r (λ u. (m : Meeting) → InConflict (paths_draft paths) kind m → ⊥)
+    (λ f. (m : Meeting) × (f ≡ Conflicting kind m) × First Sooner (InConflict (paths_draft paths) kind) m)
 
 -- paths give their plan, or their soonest conflict of the kind that comes first
 abbrev pub Accepted : Paths → Result Plan PlanFault → Type 0

@@ -1,22 +1,25 @@
 ghost use Rattle.std.specs.Prelude.{◌≡◌};
-ghost use Rattle.plan.specs.Plans.{Accepted, told, IsVerdict};
+ghost use Rattle.plan.specs.Plans.{Accepted, Refuses, told, IsVerdict};
 
 use super::Plan;
 use crate::conflicts::soonest;
 use fault::kinds::{Conflict, PlanFault};
 use record::paths::Paths;
 
+/// Refuses paths for their soonest conflict of a kind.
+fn refuse(paths: &Paths, kind: Conflict) -> Result<(), PlanFault>
+    ensures { Refuses paths.now kind result }
+{
+    soonest(paths, kind).map_or(Ok(()), |meeting| Err(PlanFault::Conflict(kind, meeting)))
+}
+
 /// The plan of some paths, unless two carriers are in conflict; clashes come before following
 /// conflicts.
 fn accept(paths: Paths) -> Result<Plan, PlanFault>
     ensures { Accepted paths result }
 {
-    if let Some(meeting) = soonest(&paths, Conflict::Clash) {
-        return Err(PlanFault::Conflict(Conflict::Clash, meeting));
-    }
-    if let Some(meeting) = soonest(&paths, Conflict::Following) {
-        return Err(PlanFault::Conflict(Conflict::Following, meeting));
-    }
+    refuse(&paths, Conflict::Clash)?;
+    refuse(&paths, Conflict::Following)?;
     Ok(Plan { paths })
 }
 
