@@ -11,25 +11,23 @@ use walk::visit::Visit;
 
 /// Adds a carrier's visits.
 fn add_visits(entries: &[Entry], carrier: u8, visits: &mut Bounded<Visit, MAX_ENTRIES>)
-    requires { (length entries.now ≤ 512) × (length (items visits.old) + length (carrier_visits entries.now carrier) ≤ 512) }
+    requires room { length (items visits.old) + length (carrier_visits entries.now carrier) ≤ 512 }
+    requires few { length entries.now ≤ 512 }
     ensures { items visits.new ≡ items visits.old ++ carrier_visits entries.now carrier }
 {
-    let mut step = 0;
     let mut last = None;
-    for entry in entries {
-        if entry.carrier == carrier {
-            if last != Some(entry.cell) {
-                visits
-                    .push(Visit {
-                        carrier,
-                        cell: entry.cell,
-                        step,
-                    })
-                    .unwrap();
-            }
-            last = Some(entry.cell);
-            step += 1;
+    let own = entries.iter().filter(|entry| entry.carrier == carrier);
+    for (step, entry) in own.enumerate() {
+        if last != Some(entry.cell) {
+            visits
+                .push(Visit {
+                    carrier,
+                    cell: entry.cell,
+                    step: step as u16,
+                })
+                .unwrap();
         }
+        last = Some(entry.cell);
     }
 }
 

@@ -13,9 +13,10 @@ add_visits-requires c =
     let paths = c.args.paths.now in
     let i = c.loop-carrier.carrier in
     let visits = items c.loop-carrier.visits in
-    let Fit : List Entry → Type 0 = λ es. (length es ≤ 512) × (length visits + length (carrier_visits es i) ≤ 512) in
-    subst Fit (sym c.entries.ensures)
-    (draft_few paths, omega (arith, draft_few paths, visits_fit (paths_draft paths).entries i, ap length c.loop-carrier.invariant))
+    let Fit : List Entry → Type 0 = λ es. length visits + length (carrier_visits es i) ≤ 512 in
+    let Few : List Entry → Type 0 = λ es. length es ≤ 512 in
+    let fits : length visits + length (carrier_visits (paths_draft paths).entries i) ≤ 512 = omega (arith, draft_few paths, visits_fit (paths_draft paths).entries i, ap length c.loop-carrier.invariant) in
+    record { room = subst Fit (sym c.entries.ensures) fits; few = subst Few (sym c.entries.ensures) (draft_few paths) }
 
 pub loop-carrier-preserved : goal.loop-carrier-preserved
 loop-carrier-preserved c =
