@@ -1,5 +1,5 @@
 -- A carrier's visits, one of its entries after another.
-use Rattle.std.proofs.Common.{◌≡◌, ℕ, zero, suc, ◌<◌, Bool, not, ◌||◌, eqb, List, get_or, length, filter, Some, None, Option, sym, refl, ap, ◌∙◌, arith, Bor, Iter}
+use Rattle.std.proofs.Common.{◌≡◌, ℕ, zero, suc, ◌<◌, Bool, true, not, ◌||◌, eqb, List, get_or, length, filter, Some, None, Option, sym, refl, ap, ◌∙◌, arith, Bor, Iter}
 use native.Mathlib.Numerals.{unary_clauses}
 use denote.Param.Members.{Mut}
 use Rattle.std.specs.List.{enumerate_from}
@@ -14,6 +14,8 @@ use Rattle.std.proofs.iter.Yields.{fronts}
 use Rattle.std.proofs.Math.Dec.{eqb-suc-zero}
 use Rattle.std.proofs.lemmas.Iterator.{YieldsList, YieldsList-from_slice}
 use Rattle.std.proofs.lemmas.Iterator.Consumers.{YieldsList-at, YieldsList-from_filter, YieldsList-from_enumerate, YieldsList-turn, YieldsList-end}
+use Rattle.std.proofs.ByRecursion.{All-get_or, kept_by_passes}
+use Rattle.std.proofs.lemmas.Bool.{eqb-true}
 use Rattle.std.proofs.lemmas.List.{length-map, get_or-map}
 use Rattle.std.proofs.lemmas.List.FromFn.{length-enumerate_from, get_or-enumerate_from}
 use Rattle.record.specs.declared.entry.Entry.{Entry}
@@ -31,9 +33,10 @@ visit_differs r (suc t) =
     simp unary_clauses (ap (λ b. b || not (eqb (get_or r t 0) (get_or r (suc t) 0))) (eqb-suc-zero t))
 
 -- the next of a carrier's entries, with how many were before it
-pub record NextEntry (r : List ℕ) (n step : ℕ) (e : Entry) : Type 0 where
+pub record NextEntry (i : ℕ) (r : List ℕ) (n step : ℕ) (e : Entry) : Type 0 where
   pub within : n < length r
   pub at : step ≡ n
+  pub manned : e.carrier ≡ i
   pub there : e.cell ≡ get_or r n 0
 
 abbrev own_entries : List Entry → ℕ → List Entry
@@ -53,14 +56,17 @@ module _ {F : Type 0} (g : Mut F (Bor (Bor Entry) × Unit {0}) Bool) (es : List 
       YieldsList-from_enumerate
       (YieldsList-at source (YieldsList-from_filter g (λ e. eqb e.carrier i) (YieldsList-from_slice es rest) callee tests)) count
 
-  pub next_entry : (step : ℕ) (e : Bor Entry) → r ≡ Some (step, e) → NextEntry (path es i) (length xs) step e.now
+  pub next_entry : (step : ℕ) (e : Bor Entry) → r ≡ Some (step, e) → NextEntry i (path es i) (length xs) step e.now
   next_entry step e is =
       let (within, same) = YieldsList-turn road xs t seen r u (step, e) is goes in
       let mine : List Entry = own_entries es i in
       let l : length xs < length mine = omega (arith, length-enumerate_from 0 mine) in
       let at = same ∙ get_or-enumerate_from 0 mine (length xs) (step, e.now) l in
+      let passes = All-get_or (λ x. eqb x.carrier i ≡ true) mine (length xs) e.now l (kept_by_passes (λ x. eqb x.carrier i) es) in
+      let own = ap (λ (p : ℕ × Entry). p.1.carrier) at ∙ eqb-true _ _ passes in
       record {
         within = omega (arith, length-map mine (λ (x : Entry). x.cell));
+        manned = own;
         at = omega (arith, ap (λ (p : ℕ × Entry). p.0) at);
         there = ap (λ (p : ℕ × Entry). p.1.cell) at ∙ sym (get_or-map (λ (x : Entry). x.cell) mine (length xs) e.now 0 l);
       }

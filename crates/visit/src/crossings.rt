@@ -1,4 +1,4 @@
-ghost use Rattle.std.specs.Prelude.{◌≡◌, ◌<◌, ◌≤◌, length, MatchResult};
+ghost use Rattle.std.specs.Prelude.{◌≡◌, false, ◌<◌, ◌≤◌, ◌^◌, length, MatchResult};
 ghost use Rattle.fixed.specs.Items.{items};
 ghost use Rattle.visit.specs.Crossings.{cross, plan_crossings};
 
@@ -15,6 +15,20 @@ fn crosses(first: &Visit, second: &Visit) -> bool
     first.carrier != second.carrier && first.cell == second.cell && first.step < second.step
 }
 
+/// The crossing of two visits in a cell, one-way as yet.
+fn crossing_at(cell: u16, first: usize, second: usize) -> Crossing
+    requires first { first < 2 ^ 16 }
+    requires second { second < 2 ^ 16 }
+    ensures { result ≡ record { cell = cell; first = first; second = second; two_way = false } }
+{
+    Crossing {
+        cell,
+        first: first as u16,
+        second: second as u16,
+        two_way: false,
+    }
+}
+
 /// The crossings of some visits, each one-way as yet, unless they are too many.
 pub fn crossings_of(
     visits: &Bounded<Visit, MAX_ENTRIES>,
@@ -26,12 +40,7 @@ pub fn crossings_of(
     for (u, first) in visits.iter().enumerate() {
         for (w, second) in visits.iter().enumerate() {
             if crosses(first, second) {
-                crossings.push(Crossing {
-                    cell: first.cell,
-                    first: u as u16,
-                    second: w as u16,
-                    two_way: false,
-                })?;
+                crossings.push(crossing_at(first.cell, u, w))?;
             }
         }
     }

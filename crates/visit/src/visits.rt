@@ -1,4 +1,4 @@
-ghost use Rattle.std.specs.Prelude.{◌≡◌, ◌+◌, ◌≤◌, ◌++◌, length};
+ghost use Rattle.std.specs.Prelude.{◌≡◌, ◌+◌, ◌<◌, ◌≤◌, ◌++◌, length};
 ghost use Rattle.fixed.specs.Items.{items};
 ghost use Rattle.record.specs.Paths.{paths_draft};
 ghost use Rattle.visit.specs.Visits.{carrier_visits, plan_visits};
@@ -8,6 +8,18 @@ use record::MAX_ENTRIES;
 use record::entry::Entry;
 use record::paths::Paths;
 use walk::visit::Visit;
+
+/// The visit that an entry is, at a step.
+fn visit_of(entry: &Entry, step: usize) -> Visit
+    requires { step < 512 }
+    ensures { result ≡ record { carrier = entry.now.carrier; cell = entry.now.cell; step = step } }
+{
+    Visit {
+        carrier: entry.carrier,
+        cell: entry.cell,
+        step: step as u16,
+    }
+}
 
 /// Adds a carrier's visits.
 fn add_visits(entries: &[Entry], carrier: u8, visits: &mut Bounded<Visit, MAX_ENTRIES>)
@@ -19,13 +31,7 @@ fn add_visits(entries: &[Entry], carrier: u8, visits: &mut Bounded<Visit, MAX_EN
     let own = entries.iter().filter(|entry| entry.carrier == carrier);
     for (step, entry) in own.enumerate() {
         if last != Some(entry.cell) {
-            visits
-                .push(Visit {
-                    carrier,
-                    cell: entry.cell,
-                    step: step as u16,
-                })
-                .unwrap();
+            visits.push(visit_of(entry, step)).unwrap();
         }
         last = Some(entry.cell);
     }

@@ -39,7 +39,7 @@ loop-w-preserved c =
     elim c.if-crosses.branch [
       | then-crosses+in_ok-push t ↦
           adds_yes (crossing_of vs u) (crosses vs u) (crossings_below vs u) before after w c.loop-w.invariant (sym t.if-crosses.ensures)
-          (rw t.crossings-is t.in_ok-push.ensures)
+          (rw (t.crossings-is, ← t.crossing_at.ensures) t.in_ok-push.ensures)
       | else-crosses t ↦
           adds_no (crossing_of vs u) (crosses vs u) (crossings_below vs u) before after w c.loop-w.invariant (sym t.if-crosses.ensures)
           (ap items t.crossings-is)

@@ -42,7 +42,8 @@ loop-step-preserved c =
       | then-ne w ↦
           adds_yes f p old before after n c.loop-step.invariant.added (differs ∙ w.if-ne.true)
           (ap items w.visits-is ∙ MatchResult-at_ok _ _ _ w.unwrap.ensures w.push.ensures
-          ∙ (λ j. before ++ record { carrier = i; cell = next.there j; step = next.at j } ∷ []))
+          ∙ ap (λ v. before ++ v ∷ []) w.visit_of.ensures
+          ∙ (λ j. before ++ record { carrier = next.manned j; cell = next.there j; step = next.at j } ∷ []))
       | else-ne w ↦ adds_no f p old before after n c.loop-step.invariant.added (differs ∙ w.if-ne.false) (ap items w.visits-is)
     ] in
     record {
