@@ -3,5 +3,6 @@
 
 pub mod graph;
 mod links;
+mod net;
 mod sums;
 mod two_way;
