@@ -1,4 +1,4 @@
-ghost use Rattle.std.specs.Prelude.{◌≡◌, ℕ, ◌-◌, ◌*◌, ◌^◌, ◌<◌, ◌≤◌, true, false, length, IfSome, MatchOption, if◌then◌else◌, slice_index_or, count_ones};
+ghost use Rattle.std.specs.Prelude.{◌≡◌, ℕ, ◌-◌, ◌*◌, ◌^◌, ◌<◌, ◌≤◌, ◌⊎◌, true, false, length, IsTrue, IfSome, MatchOption, if◌then◌else◌, slice_index_or, count_ones};
 ghost use Rattle.std.specs.Mem.{type_size};
 ghost use Rattle.record.specs.Paths.{paths_draft};
 ghost use Rattle.visit.specs.Visits.{first_visits, last_visit};
@@ -58,6 +58,14 @@ fn others(set: CarrierSet) -> u32
     set.bits.count_ones().saturating_sub(1)
 }
 
+/// Whether one of three lengths is below the length needed.
+fn is_short(needed: usize, start: usize, sums: usize, spare: usize) -> bool
+    ensures short { IsTrue result → (start < needed) ⊎ ((sums < needed) ⊎ (spare < needed)) }
+    ensures long { result ≡ false → (needed ≤ start) × (needed ≤ sums) × (needed ≤ spare) }
+{
+    start.min(sums).min(spare) < needed
+}
+
 impl Net {
     /// What starts at a visit: on each carrier's first visit the kind's own, else zero.
     fn start<K: Starting>(&self, visit: usize) -> K
@@ -98,7 +106,7 @@ impl Graph {
         ensures walks { (taken : ℕ → Ways) (k v : ℕ) → ListsWalks (graph_visits self.now) (graph_crossings self.now) taken k v }
     {
         let count = self.visits().len();
-        if start.len().min(sums.len()).min(spare.len()) < count {
+        if is_short(count, start.len(), sums.len(), spare.len()) {
             return Err(RoomFault {
                 needed: count as u16,
             });

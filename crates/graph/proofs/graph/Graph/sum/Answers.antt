@@ -9,8 +9,8 @@ use Rattle.graph.specs.Figures.{sums_of}
 use Rattle.graph.proofs.Along.{starts_cut}
 use Rattle.graph.proofs.graph.Graph.sum.Goals as goal
 
-pub returns-then-min-count-clause-walks : goal.returns-then-min-count-clause-walks
-returns-then-min-count-clause-walks g c = lists_walks (graph_visits c.args.self.now) (graph_crossings c.args.self.now)
+pub returns-then-is_short-clause-walks : goal.returns-then-is_short-clause-walks
+returns-then-is_short-clause-walks g c = lists_walks (graph_visits c.args.self.now) (graph_crossings c.args.self.now)
 
 pub returns-clause-walks : goal.returns-clause-walks
 returns-clause-walks g c = lists_walks (graph_visits c.args.self.now) (graph_crossings c.args.self.now)
@@ -29,7 +29,8 @@ returns-clause-summed g c =
     ∙ (λ i. map (sum_at ops vs cs ways (starts_in ops.zero (take (seen i) start))) (range_with_len 0 (length vs)))
     ∙ starts_cut ops g.met.K.Kind.laws vs cs ways start graph.net.between in
     let all : length (sums_of ops vs cs ways start) ≡ length vs = length-map-range_with_len (sum_at ops vs cs ways (starts_in ops.zero start)) 0 (length vs) in
-    let past = seen ∙ sym all in (
+    let past = seen ∙ sym all in
+    let room = c.is_short.ensures.long c.if-is_short.false in (
       omega arith,
       (omega arith, λ i. found i ++ drop (past i) c.args.sums.now),
       (omega arith, λ i. (c.sum.ensures.spare ∙ found) i ++ drop (past i) c.args.spare.now),
