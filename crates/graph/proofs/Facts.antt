@@ -73,14 +73,3 @@ module _ (g : Graph) where
   -- whatever directions are chosen, a graph has no circle
   pub graph_acyclic : NoCircle (graph_visits g) (graph_crossings g)
   graph_acyclic = tested_no_circle (graph_visits g) (graph_crossings g) timely graph_judges
-
-  -- a plan that has a graph has no more crossings than a graph holds
-  pub graph_fits : length (plan_crossings (plan_visits (graph_draft g))) ≤ 1024
-  graph_fits =
-      omega (
-        arith,
-        items_few g.net.crossings,
-        length-map (graph_crossings g) one_way,
-        ap length g.crossed,
-        ap (λ vs. length (plan_crossings vs)) g.visited,
-      )

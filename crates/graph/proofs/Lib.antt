@@ -6,7 +6,6 @@ pub mod Alike
 pub mod Reached
 pub mod Testing
 pub mod Facts
-pub mod Judging
 pub mod Single
 pub mod Started
 pub mod Arrive

@@ -51,11 +51,6 @@ module _ (vs : List Visit) (cs : List Crossing) (k : ℕ) (b : Bool) where
         λ (can, free). flag ∙ decides.1 (candidate_alike ds cs alike vs k can, λ w h. free w (test_alike cs ds (sym alike) vs k (λ j l. others j (λ e. omega arith)) w h)),
       )
 
-pub between_alike : (n : ℕ) (cs ds : List Crossing) → map one_way cs ≡ map one_way ds → Between n cs → Between n ds
-between_alike n cs ds alike between k h =
-    let (f, s) = between k (omega (arith, lengths cs ds alike)) in
-    (omega (arith, firsts cs ds alike k), omega (arith, seconds cs ds alike k))
-
 -- where the tests of the crossings `all` have come to crossing k
 pub record Reaches (vs : List Visit) (all cs : List Crossing) (k : ℕ) : Type 0 where
   pub those : map one_way cs ≡ map one_way all

@@ -10,7 +10,7 @@ loop-link-init g c =
     let it = c.args.self.now in
     record {
       size = ap length copied ∙ it.started;
-      so_far = λ v h. ap (λ xs. get_or xs v ops.zero) copied ∙ round_none ops g.met.K.Kind.laws it.visits.now it.start.now c.args.values.now it.links.now v;
+      so_far = λ v h. rw copied (round_none ops g.met.K.Kind.laws it.visits.now it.start.now c.args.values.now it.links.now v);
     }
 
 pub loop-link-preserved : goal.loop-link-preserved
@@ -20,8 +20,8 @@ loop-link-preserved g c =
     let i = c.loop-link.link-index in
     let inside : (link_at it.links.now i).to < length c.loop-link.next = omega (arith, (it.inside i c.loop-link-test.true).1, c.loop-link.invariant.size) in
     record {
-      size = ap length c.bring.ensures ∙ length-set _ _ _ ∙ c.loop-link.invariant.size;
+      size = rw c.bring.ensures (length-set _ _ _ ∙ c.loop-link.invariant.size);
       so_far = λ v h.
-          ap (λ xs. get_or xs v ops.zero) c.bring.ensures
-          ∙ round_set ops g.met.K.Kind.laws it.visits.now it.start.now c.args.values.now c.loop-link.next it.links.now i c.loop-link-test.true inside v (c.loop-link.invariant.so_far v h);
+          rw c.bring.ensures
+          (round_set ops g.met.K.Kind.laws it.visits.now it.start.now c.args.values.now c.loop-link.next it.links.now i c.loop-link-test.true inside v (c.loop-link.invariant.so_far v h));
     }

@@ -13,7 +13,7 @@ loop-round-init g c =
       sums_size = ap length copied ∙ it.started;
       next_size = c.requires.next;
       twins = λ h. absurd (let z : ⊥ = omega arith in z);
-      so_far = λ v h. ap (λ xs. get_or xs v ops.zero) copied ∙ sym (sum_none ops g.met.K.Kind.laws it.visits.now link_from link_to (λ u. get_or it.start.now u ops.zero) it.links.now v);
+      so_far = λ v h. rw copied (sym (sum_none ops g.met.K.Kind.laws it.visits.now link_from link_to (λ u. get_or it.start.now u ops.zero) it.links.now v));
     }
 
 pub loop-round-preserved : goal.loop-round-preserved
@@ -27,13 +27,13 @@ loop-round-preserved g c =
       next_size = size;
       twins = λ h. sym copied;
       so_far = λ v h.
-          ap (λ xs. get_or xs v ops.zero) copied ∙ c.round.ensures v h
-          ∙ round_sum ops g.met.K.Kind.laws it.visits.now it.start.now c.loop-round.sums it.links.now c.loop-round._round (length it.visits.now) it.inside c.loop-round.invariant.so_far v;
+          rw copied (c.round.ensures v h
+          ∙ round_sum ops g.met.K.Kind.laws it.visits.now it.start.now c.loop-round.sums it.links.now c.loop-round._round (length it.visits.now) it.inside c.loop-round.invariant.so_far v);
     }
 
 pub returns-then-settle-clause-sums : goal.returns-then-settle-clause-sums
 returns-then-settle-clause-sums g c v h =
     let ops = g.K.Kind.ops in
     let it = c.args.self.now in
-    ap (λ xs. get_or xs v ops.zero) c.settle.ensures.after
-    ∙ sum_settled ops g.met.K.Kind.laws it.visits.now it.start.now c.loop-round.sums c.round.new.next it.links.now c.loop-round._round (length it.visits.now) it.inside (omega arith) (c.settle.ensures.quiet.0 c.if-settle.true) c.round.ensures c.loop-round.invariant.so_far v h
+    rw c.settle.ensures.after
+    (sum_settled ops g.met.K.Kind.laws it.visits.now it.start.now c.loop-round.sums c.round.new.next it.links.now c.loop-round._round (length it.visits.now) it.inside (omega arith) (c.settle.ensures.quiet.0 c.if-settle.true) c.round.ensures c.loop-round.invariant.so_far v h)
