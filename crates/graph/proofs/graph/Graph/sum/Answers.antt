@@ -25,9 +25,7 @@ returns-clause-summed g c =
     let start = c.args.start.now in
     let seen = ap length c.visits-count.ensures in
     let found : c.sum.new.sums ≡ sums_of ops vs cs ways start =
-    c.sum.ensures.sums
-    ∙ (λ i. map (sum_at ops vs cs ways (starts_in ops.zero (take (seen i) start))) (range_with_len 0 (length vs)))
-    ∙ starts_cut ops g.met.K.Kind.laws vs cs ways start graph.net.between in
+    rw (c.sum.ensures.sums, c.visits-count.ensures) (starts_cut ops g.met.K.Kind.laws vs cs ways start graph.net.between) in
     let all : length (sums_of ops vs cs ways start) ≡ length vs = length-map-range_with_len (sum_at ops vs cs ways (starts_in ops.zero start)) 0 (length vs) in
     let past = seen ∙ sym all in
     let room = c.is_short.ensures.long c.if-is_short.false in (

@@ -28,6 +28,5 @@ returns-clause-sums g c =
     let start = starts_in ops.zero c.args.start.now in
     let size : length c.run.new.sums ≡ length vs = omega (arith, c.requires.sums) in
     fill_by_all (sum_at ops vs cs ways start) c.run.new.sums (length vs) ops.zero size (λ v h.
-    c.run.ensures.sums v (rw c.visits.ensures h)
-    ∙ (λ i. sum_over ops (c.visits.ensures i) link_from link_to ((c.as_slice.ensures ∙ c.links-links.ensures) i) start (length (c.visits.ensures i)) v)
-    ∙ sum_links ops g.met.K.Kind.laws vs cs (edges vs cs ways) start (length vs) v)
+    rw (c.run.ensures.sums v (rw c.visits.ensures h), c.visits.ensures, c.as_slice.ensures, c.links-links.ensures)
+    (sum_links ops g.met.K.Kind.laws vs cs (edges vs cs ways) start (length vs) v))

@@ -1,7 +1,7 @@
-use Rattle.std.proofs.Common.{◌≡◌, ◌<◌, map, length, get_or, take, ap, ◌∙◌, arith, rules}
+use Rattle.std.proofs.Common.{◌≡◌, ◌<◌, map, length, take, drop, ◌∙◌, arith, rules}
 use Rattle.std.specs.List.{range_with_len}
 use Rattle.std.proofs.lemmas.List.{get_or_append_left}
-use Rattle.std.proofs.lemmas.List.FromFn.{get_or-map-range_with_len}
+use Rattle.std.proofs.lemmas.List.FromFn.{length-map-range_with_len, get_or-map-range_with_len}
 use Rattle.walk.specs.Sums.{sum_at}
 use Rattle.graph.specs.Inputs.{ways_in, starts_in}
 use Rattle.graph.specs.Nets.{net_visits, net_crossings}
@@ -19,10 +19,7 @@ returns g c =
     let start = c.args.start.now in
     let f = sum_at ops vs cs ways (starts_in ops.zero start) in
     let sums : c.sum.new.sums ≡ map f (range_with_len 0 (length vs)) =
-    c.sum.ensures.sums
-    ∙ (λ i. map (sum_at ops vs cs ways (starts_in ops.zero (take (length (c.visits-count.ensures i)) start))) (range_with_len 0 (length vs)))
-    ∙ starts_cut ops g.met.K.Kind.laws vs cs ways start net.between in
-    let within : v < length c.sum.new.sums = let k = c.sum.auto.sums in search rules in
-    get_or_append_left _ _ _ v within
-    ∙ ap (λ xs. get_or xs v c.index-sums-visit.result) sums
-    ∙ get_or-map-range_with_len f 0 (length vs) v v c.index-sums-visit.result c.requires (omega arith)
+    rw (c.sum.ensures.sums, c.visits-count.ensures) (starts_cut ops g.met.K.Kind.laws vs cs ways start net.between) in
+    let within : v < length c.sum.new.sums = rw (sums, length-map-range_with_len f 0 (length vs)) c.requires in
+    rw (get_or_append_left c.sum.new.sums (drop (length c.visits-count.result.now) start) c.index-sums-visit.result v within, sums)
+    (get_or-map-range_with_len f 0 (length vs) v v c.index-sums-visit.result c.requires (omega arith))

@@ -20,7 +20,7 @@ loop-link-preserved g c =
     let i = c.loop-link.link-index in
     let inside : (link_at it.links.now i).to < length c.loop-link.next = omega (arith, (it.inside i c.loop-link-test.true).1, c.loop-link.invariant.size) in
     record {
-      size = rw c.bring.ensures (length-set _ _ _ ∙ c.loop-link.invariant.size);
+      size = rw c.bring.ensures (simp length-set c.loop-link.invariant.size);
       so_far = λ v h.
           rw c.bring.ensures
           (round_set ops g.met.K.Kind.laws it.visits.now it.start.now c.args.values.now c.loop-link.next it.links.now i c.loop-link-test.true inside v (c.loop-link.invariant.so_far v h));

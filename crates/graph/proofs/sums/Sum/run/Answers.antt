@@ -1,4 +1,4 @@
-use Rattle.std.proofs.Common.{◌≡◌, length, get_or, sym, ap, ◌∙◌, arith}
+use Rattle.std.proofs.Common.{◌≡◌, length, get_or, sym, ap, ◌∙◌, rules, arith}
 use Rattle.walk.proofs.Sums.{sum_none}
 use Rattle.graph.specs.Links.{link_from, link_to}
 use Rattle.graph.proofs.Rounds.{round_sum, sum_settled}
@@ -12,7 +12,7 @@ loop-round-init g c =
     record {
       sums_size = ap length copied ∙ it.started;
       next_size = c.requires.next;
-      twins = λ h. absurd (let z : ⊥ = omega arith in z);
+      twins = search rules;
       so_far = λ v h. rw copied (sym (sum_none ops g.met.K.Kind.laws it.visits.now link_from link_to (λ u. get_or it.start.now u ops.zero) it.links.now v));
     }
 
@@ -27,8 +27,8 @@ loop-round-preserved g c =
       next_size = size;
       twins = λ h. sym copied;
       so_far = λ v h.
-          rw copied (c.round.ensures v h
-          ∙ round_sum ops g.met.K.Kind.laws it.visits.now it.start.now c.loop-round.sums it.links.now c.loop-round._round (length it.visits.now) it.inside c.loop-round.invariant.so_far v);
+          rw (copied, c.round.ensures v h)
+          (round_sum ops g.met.K.Kind.laws it.visits.now it.start.now c.loop-round.sums it.links.now c.loop-round._round (length it.visits.now) it.inside c.loop-round.invariant.so_far v);
     }
 
 pub returns-then-settle-clause-sums : goal.returns-then-settle-clause-sums
