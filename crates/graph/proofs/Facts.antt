@@ -1,11 +1,10 @@
 -- What a graph's invariant gives.
-use Rattle.std.proofs.Common.{◌≡◌, ℕ, ◌≤◌, List, [], ◌∷◌, ◌++◌, map, length, Some, None, filter, Option, sym, refl, ap, ◌∙◌, subst, arith}
+use Rattle.std.proofs.Common.{◌≡◌, ℕ, List, [], ◌∷◌, ◌++◌, map, length, Some, None, filter, Option, sym, refl, ap, ◌∙◌, subst, arith}
 use mathlib.Core.Bool.{Bool-set}
 use mathlib.Core.HLevel.{Π_prop, ×_prop, ⊥_prop}
 use mathlib.Core.Logic.{∥∥₁_elim}
 use Rattle.std.specs.List.{range_with_len, flat_map}
-use Rattle.std.proofs.lemmas.List.{map-append, length-map}
-use Rattle.fixed.proofs.Held.{items_few}
+use Rattle.std.proofs.lemmas.List.{map-append}
 use Rattle.fault.specs.declared.kinds.Conflict.TheVariants.{Clash, Following}
 use Rattle.record.specs.Layout.{Draft}
 use Rattle.plan.specs.declared.accepted.Plan.{Plan}

@@ -8,9 +8,8 @@ use Rattle.walk.specs.declared.crossing.Ways.{Ways}
 use Rattle.walk.specs.Edges.{Edge, crossing, no_crossing, has_next, is_start}
 use Rattle.walk.specs.Walks.{GraphWalk}
 use Rattle.walk.specs.Ways.{test_ways, Passes, Tested}
-use Rattle.graph.specs.Between.{Between}
 use Rattle.graph.specs.Graphs.{one_way, AllTested}
-use Rattle.graph.proofs.Alike.{ways_walk, firsts, seconds, lengths, candidate_alike, test_alike, tested_alike}
+use Rattle.graph.proofs.Alike.{ways_walk, candidate_alike, test_alike, tested_alike}
 
 module _ (vs : List Visit) (cs : List Crossing) (k : ℕ) (ways : ℕ → Ways) (are : (j : ℕ) → j < length cs → ways j ≡ test_ways cs k j) where
   -- no such walk, and a candidate: the test is passed

@@ -4,5 +4,6 @@
 pub mod graph;
 mod links;
 mod net;
+mod plan_sums;
 mod sums;
 mod two_way;

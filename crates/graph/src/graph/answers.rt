@@ -1,22 +1,17 @@
-ghost use Rattle.std.specs.Prelude.{◌≡◌, ℕ, ◌-◌, ◌*◌, ◌^◌, ◌<◌, ◌≤◌, ◌⊎◌, true, false, length, IsTrue, IfSome, MatchOption, if◌then◌else◌, slice_index_or, count_ones};
-ghost use Rattle.std.specs.Mem.{type_size};
+ghost use Rattle.std.specs.Prelude.{◌≡◌, ℕ, ◌-◌, ◌<◌, ◌≤◌, ◌⊎◌, false, length, IsTrue, IfSome, MatchOption, count_ones};
 ghost use Rattle.record.specs.Paths.{paths_draft};
 ghost use Rattle.visit.specs.Visits.{first_visits, last_visit};
 ghost use Rattle.walk.specs.declared.crossing.Ways.{Ways};
-ghost use Rattle.walk.specs.Edges.{no_visit, is_start};
 ghost use Rattle.walk.specs.Walks.{ListsWalks};
 ghost use Rattle.graph.specs.Inputs.{ways_in};
-ghost use Rattle.graph.specs.Nets.{net_visits, net_crossings};
 ghost use Rattle.graph.specs.Verdicts.{graph_draft, graph_visits, graph_crossings};
-ghost use Rattle.graph.specs.Figures.{Summed, sums_of, plan_ways, plan_sum, earliest_step, relied_on, Arrives};
+ghost use Rattle.graph.specs.Figures.{Summed, sums_of, earliest_step, relied_on, Arrives};
 
 use super::Graph;
-use crate::net::Net;
 use fault::kinds::RoomFault;
 use record::paths::Paths;
-use std::array;
 use walk::crossing::{MAX_CROSSINGS, Ways};
-use walk::kinds::{CarrierSet, Earliest, Kind, Starting};
+use walk::kinds::{CarrierSet, Earliest, Kind};
 
 /// How many visits the carriers before a carrier make.
 fn visits_before(paths: &Paths, carrier: u8) -> usize
@@ -34,23 +29,6 @@ fn last_visit(paths: &Paths, carrier: u8) -> usize
     (visits_before(paths, carrier) + usize::from(paths.visits(carrier))).saturating_sub(1)
 }
 
-/// A crossing's plan edge, and not its reversed one.
-fn plan_way() -> Ways
-    ensures { result ≡ record { plan = true; reversed = false } }
-{
-    Ways {
-        plan: true,
-        reversed: false,
-    }
-}
-
-/// All plan edges, and no reversed one.
-fn plan_ways() -> [Ways; MAX_CROSSINGS]
-    ensures { (k : ℕ) → k < 1024 → ways_in result k ≡ plan_ways k }
-{
-    [plan_way(); MAX_CROSSINGS]
-}
-
 /// How many carriers are in a set beside the one that it is for.
 fn others(set: CarrierSet) -> u32
     ensures { result ≡ count_ones set.bits - 1 }
@@ -64,29 +42,6 @@ fn is_short(needed: usize, start: usize, sums: usize, spare: usize) -> bool
     ensures long { result ≡ false → (needed ≤ start) × (needed ≤ sums) × (needed ≤ spare) }
 {
     start.min(sums).min(spare) < needed
-}
-
-impl Net {
-    /// What starts at a visit: on each carrier's first visit the kind's own, else zero.
-    fn start<K: Starting>(&self, visit: usize) -> K
-        ensures there { visit < length (net_visits self.now) → result ≡ (if is_start (net_visits self.now) visit then K.starting (slice_index_or (net_visits self.now) visit no_visit) else K.Kind.ops.zero) }
-        ensures past { length (net_visits self.now) ≤ visit → result ≡ K.Kind.ops.zero }
-    {
-        match self.visits().get(visit) {
-            Some(first) if self.is_start(visit) => K::start(*first),
-            _ => K::zero(),
-        }
-    }
-
-    /// The sum at a visit, over path and plan edges, of what starts on each carrier's first visit.
-    fn plan_sum<K: Starting>(&self, visit: usize) -> K
-        requires fits { 512 * type_size K.row < 2 ^ 63 }
-        requires there { visit < length (net_visits self.now) }
-        ensures { result ≡ plan_sum K.Kind.ops K.starting (net_visits self.now) (net_crossings self.now) visit }
-    {
-        let start = array::from_fn(|visit| self.start(visit));
-        self.sum_at(&plan_ways(), &start, visit)
-    }
 }
 
 impl Graph {

@@ -1,8 +1,7 @@
 use Rattle.std.proofs.Common.{◌≡◌, length, sym, ap, ◌∙◌, arith}
 use Rattle.std.proofs.lemmas.List.FromFn.{fill_by_all}
 use Rattle.walk.specs.Edges.{edges}
-use Rattle.walk.specs.Sums.{sum_over, sum_at}
-use Rattle.graph.specs.Links.{link_from, link_to}
+use Rattle.walk.specs.Sums.{sum_at}
 use Rattle.graph.specs.Inputs.{ways_in, starts_in}
 use Rattle.graph.specs.Nets.{net_visits, net_crossings}
 use Rattle.graph.proofs.Along.{links_within, sum_links}
