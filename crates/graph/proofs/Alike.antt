@@ -1,6 +1,7 @@
 -- Graphs that differ in what does not matter to a walk.
-use Rattle.std.proofs.Common.{◌≡◌, ℕ, zero, suc, ◌+◌, ◌<◌, ◌≤◌, Bool, cond, not, ◌&&◌, eqb, ltb, List, [], ◌∷◌, ◌++◌, map, length, get_or, filter, sym, refl, ap, ◌∙◌, subst, ⊎_elim, arith}
+use Rattle.std.proofs.Common.{◌≡◌, ℕ, ◌+◌, ◌<◌, ◌≤◌, Bool, cond, not, ◌&&◌, eqb, ltb, List, [], ◌∷◌, ◌++◌, map, length, get_or, filter, sym, refl, ap, ◌∙◌, subst, ⊎_elim, arith}
 use Rattle.std.specs.List.{range_with_len, flat_map}
+use Rattle.std.proofs.Math.ListN.{get_or-map}
 use Rattle.std.proofs.lemmas.List.{length-map}
 use Rattle.std.proofs.lemmas.Bool.{cases_lt, le-ltb}
 use Rattle.walk.specs.declared.visit.Visit.{Visit}
@@ -43,10 +44,8 @@ module _ (vs : List Visit) (cs : List Crossing) (ways others : ℕ → Ways) (sa
 
 -- ---- crossings that differ only in which are two-way
 
-pub get_or_one_way : (cs : List Crossing) (k : ℕ) → get_or (map one_way cs) k no_crossing ≡ one_way (crossing cs k)
-get_or_one_way [] k = refl
-get_or_one_way (x ∷ cs) zero = refl
-get_or_one_way (x ∷ cs) (suc k) = get_or_one_way cs k
+get_or_one_way : (cs : List Crossing) (k : ℕ) → get_or (map one_way cs) k no_crossing ≡ one_way (crossing cs k)
+get_or_one_way cs k = get_or-map one_way cs k no_crossing
 
 module _ (cs ds : List Crossing) (alike : map one_way cs ≡ map one_way ds) where
   pub shapes : (k : ℕ) → one_way (crossing cs k) ≡ one_way (crossing ds k)

@@ -2,12 +2,12 @@
 use Rattle.std.proofs.Common.{◌≡◌, ℕ, ◌+◌, ◌*◌, ◌<◌, ◌≤◌, Bool, true, false, cond, ◌&&◌, ltb, Option, Some, None, List, [], ◌∷◌, ◌++◌, map, length, filter, sym, refl, ap, ◌∙◌, arith}
 use Rattle.std.specs.List.{range_with_len, cons_option, filter_map, flat_map, AllByRecursion}
 use Rattle.std.specs.Option.{option_to_list}
-use Rattle.std.proofs.lemmas.List.FromFn.{length-range_with_len, get_or-range_with_len}
+use Rattle.std.proofs.lemmas.List.FromFn.{length-range_with_len}
 use Rattle.std.proofs.lemmas.List.Elements.{filter-append}
-use Rattle.std.proofs.ByRecursion.{All-from_get_or}
 use Rattle.std.proofs.lemmas.List.{length-append, append_assoc, map-append}
 use Rattle.std.proofs.lemmas.Bool.{lt-ltb}
 use Rattle.fixed.proofs.Counting.{one_more}
+use Rattle.visit.proofs.Ordered.{all_below}
 use Rattle.walk.specs.declared.visit.Visit.{Visit}
 use Rattle.walk.specs.declared.crossing.Crossing.{Crossing}
 use Rattle.walk.specs.declared.crossing.Ways.{Ways}
@@ -90,9 +90,6 @@ cons_first : {X : Type 0} (o : Option X) (xs : List X) → option_to_list o ++ x
 cons_first None xs = refl
 cons_first (Some x) xs = refl
 
-below : (n : ℕ) → AllByRecursion (λ k. k < n) (range_with_len 0 n)
-below n = All-from_get_or (λ k. k < n) (range_with_len 0 n) 0 (λ i h. let l : i < n = omega (arith, length-range_with_len 0 n) in omega (arith, get_or-range_with_len 0 n i 0 l))
-
 module _ (vs : List Visit) (cs : List Crossing) (ways : ℕ → Ways) where
   path_part : (ns : List ℕ) → filter_map (path_link vs) ns ≡ map (link cs) (filter (is_edge vs cs ways) (map path_edge ns))
   path_part [] = refl
@@ -126,6 +123,6 @@ module _ (vs : List Visit) (cs : List Crossing) (ways : ℕ → Ways) where
   links_are =
       let paths : List Edge = map path_edge (range_with_len 0 (length vs)) in
       let crossed : List Edge = flat_map (λ k. plan_edge k ∷ reversed_edge k ∷ []) (range_with_len 0 (length cs)) in
-      (λ i. path_part (range_with_len 0 (length vs)) i ++ crossing_part (range_with_len 0 (length cs)) (below (length cs)) i)
+      (λ i. path_part (range_with_len 0 (length vs)) i ++ crossing_part (range_with_len 0 (length cs)) (all_below (length cs)) i)
       ∙ sym (map-append (link cs) (filter (is_edge vs cs ways) paths) (filter (is_edge vs cs ways) crossed))
       ∙ ap (map (link cs)) (sym (filter-append (is_edge vs cs ways) paths crossed))

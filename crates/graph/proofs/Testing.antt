@@ -1,5 +1,6 @@
 -- The crossings tested one after another.
-use Rattle.std.proofs.Common.{◌≡◌, ℕ, zero, suc, ◌+◌, ◌<◌, Bool, true, not, ◌&&◌, List, [], ◌∷◌, map, length, set, Decides, sym, refl, ap, ◌∙◌, ⊎_elim, arith, below_more}
+use Rattle.std.proofs.Common.{◌≡◌, ℕ, ◌+◌, ◌<◌, Bool, true, not, ◌&&◌, List, map, length, set, Decides, sym, refl, ap, ◌∙◌, ⊎_elim, arith, below_more}
+use Rattle.std.proofs.Math.Seq.{map-set_same}
 use Rattle.std.proofs.lemmas.List.{get_or-set_same, get_or-set_other}
 use Rattle.std.proofs.lemmas.Bool.{both_ways, cases_Bool, and_parts, not-true}
 use Rattle.walk.specs.declared.visit.Visit.{Visit}
@@ -26,10 +27,9 @@ module _ (vs : List Visit) (cs : List Crossing) (k : ℕ) (ways : ℕ → Ways) 
       refused : Passes vs cs k → not r ≡ true
       refused p = ⊎_elim (λ e. let (w, h) = leads.0 e in absurd (p.1 w (ways_walk vs cs ways (test_ways cs k) are (crossing cs k).first ((crossing cs k).second + 1) w h))) (ap not) (cases_Bool r)
 
+-- whether a crossing is two-way does not show in it one-way
 one_way_set : (cs : List Crossing) (k : ℕ) (b : Bool) → map one_way (set cs k (record (crossing cs k) { two_way = b })) ≡ map one_way cs
-one_way_set [] k b = refl
-one_way_set (x ∷ cs) zero b = refl
-one_way_set (x ∷ cs) (suc k) b = ap (λ xs. one_way x ∷ xs) (one_way_set cs k b)
+one_way_set cs k b = map-set_same one_way cs k (record (crossing cs k) { two_way = b }) no_crossing refl
 
 -- crossing k is made two-way or not
 module _ (vs : List Visit) (cs : List Crossing) (k : ℕ) (b : Bool) where

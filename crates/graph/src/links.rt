@@ -1,8 +1,8 @@
-ghost use Rattle.std.specs.Prelude.{◌≡◌, ◌+◌, ◌<◌, ◌≤◌, [], ◌++◌, length};
+ghost use Rattle.std.specs.Prelude.{◌≡◌, ◌+◌, ◌<◌, ◌++◌, length};
 ghost use Rattle.std.specs.Option.{option_to_list};
-ghost use Rattle.std.specs.List.{range_with_len, filter_map, flat_map};
+ghost use Rattle.std.specs.List.{range_with_len, filter_map};
 ghost use Rattle.fixed.specs.Items.{items};
-ghost use Rattle.graph.specs.Links.{path_link, plan_link, reversed_link, crossing_links, links};
+ghost use Rattle.graph.specs.Links.{path_link, plan_link, reversed_link, links};
 ghost use Rattle.graph.specs.Inputs.{ways_in};
 ghost use Rattle.graph.specs.Nets.{net_visits, net_crossings};
 

@@ -1,4 +1,4 @@
-ghost use Rattle.std.specs.Prelude.{◌≡◌, ℕ, ◌+◌, ◌<◌, ◌↔◌, IsTrue, not, ◌&&◌, List, map, length};
+ghost use Rattle.std.specs.Prelude.{◌≡◌, ℕ, ◌<◌, ◌↔◌, IsTrue, not, ◌&&◌, List, map, length};
 ghost use Rattle.walk.specs.Edges.{Edge, has_next, is_start};
 ghost use Rattle.walk.specs.Walks.{GraphWalk};
 ghost use Rattle.walk.specs.Ways.{test_ways, Passes};

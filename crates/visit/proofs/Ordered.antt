@@ -68,7 +68,7 @@ sorted_counting a (suc n) =
     let on : (k : ℕ) → FromTo (a + 1) n k → a < k = λ k h. omega arith in
     (All-weaker (FromTo (a + 1) n) (λ k. a < k) on (range_with_len (a + 1) n) (all_counting (a + 1) n), sorted_counting (a + 1) n)
 
-all_below : (n : ℕ) → AllByRecursion (λ k. k < n) (range_with_len 0 n)
+pub all_below : (n : ℕ) → AllByRecursion (λ k. k < n) (range_with_len 0 n)
 all_below n = All-weaker (FromTo 0 n) (λ k. k < n) (λ k h. omega arith) (range_with_len 0 n) (all_counting 0 n)
 
 all_kept : {X : Type 0} (P : X → Type 0) (p : X → Bool) (xs : List X) → AllByRecursion P xs → AllByRecursion (λ x. P x × (p x ≡ true)) (filter p xs)
