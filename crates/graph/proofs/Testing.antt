@@ -10,7 +10,7 @@ use Rattle.walk.specs.Edges.{Edge, crossing, no_crossing, has_next, is_start}
 use Rattle.walk.specs.Walks.{GraphWalk}
 use Rattle.walk.specs.Ways.{test_ways, Passes, Tested}
 use Rattle.graph.specs.Graphs.{one_way, AllTested}
-use Rattle.graph.proofs.Alike.{ways_walk, candidate_alike, test_alike, tested_alike}
+use Rattle.graph.proofs.Alike.{ways_walk, passes_alike, tested_alike}
 
 module _ (vs : List Visit) (cs : List Crossing) (k : ℕ) (ways : ℕ → Ways) (are : (j : ℕ) → j < length cs → ways j ≡ test_ways cs k j) where
   -- no such walk, and a candidate: the test is passed
@@ -44,10 +44,10 @@ module _ (vs : List Visit) (cs : List Crossing) (k : ℕ) (b : Bool) where
   tests_more there judged decides =
       let alike = one_way_set cs k b in
       let flag : (crossing ds k).two_way ≡ b = ap (λ x. x.two_way) (get_or-set_same cs k (record (crossing cs k) { two_way = b }) no_crossing there) in
+      let before = λ (j : ℕ) (l : j < k). others j (λ e. omega arith) in
       below_more (Tested vs ds) k (λ j l. tested_alike vs cs ds j (sym alike) (λ i h. others i (λ e. omega arith)) (judged j l)) (
-        λ e. let (can, free) = decides.0 (sym flag ∙ e) in
-            (candidate_alike cs ds (sym alike) vs k can, λ w h. free w (test_alike ds cs alike vs k (λ j l. sym (others j (λ e. omega arith))) w h)),
-        λ (can, free). flag ∙ decides.1 (candidate_alike ds cs alike vs k can, λ w h. free w (test_alike cs ds (sym alike) vs k (λ j l. others j (λ e. omega arith)) w h)),
+        λ e. passes_alike vs cs ds (sym alike) k before (decides.0 (sym flag ∙ e)),
+        λ p. flag ∙ decides.1 (passes_alike vs ds cs alike k (λ j l. sym (before j l)) p),
       )
 
 -- where the tests of the crossings `all` have come to crossing k
