@@ -15,6 +15,7 @@ use walk::kinds::Kind;
 use walk::visit::Visit;
 
 /// What a sum goes over: the visits, the links between them, and what starts at each visit.
+// The values of a round are no part of it: they are lent to each call, which asks for their lengths.
 #[derive(Drop)]
 struct Sum<'a, K> {
     visits: &'a [Visit],

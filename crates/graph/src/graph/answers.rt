@@ -39,7 +39,9 @@ fn others(set: CarrierSet) -> u32
 /// Whether one of three lengths is below the length needed.
 fn is_short(needed: usize, start: usize, sums: usize, spare: usize) -> bool
     ensures short { IsTrue result → (start < needed) ⊎ ((sums < needed) ⊎ (spare < needed)) }
-    ensures long { result ≡ false → (needed ≤ start) × (needed ≤ sums) × (needed ≤ spare) }
+    ensures start { result ≡ false → needed ≤ start }
+    ensures sums { result ≡ false → needed ≤ sums }
+    ensures spare { result ≡ false → needed ≤ spare }
 {
     start.min(sums).min(spare) < needed
 }

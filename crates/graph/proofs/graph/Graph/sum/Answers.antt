@@ -27,8 +27,8 @@ returns-clause-summed g c =
     rw (c.sum.ensures.sums, c.visits-count.ensures) (starts_cut ops g.met.K.Kind.laws vs cs ways start graph.net.between) in
     let all : length (sums_of ops vs cs ways start) ≡ length vs = length-map-range_with_len (sum_at ops vs cs ways (starts_in ops.zero start)) 0 (length vs) in
     let past = seen ∙ sym all in
-    let room = c.is_short.ensures.long c.if-is_short.false in (
-      omega arith,
-      (omega arith, λ i. found i ++ drop (past i) c.args.sums.now),
-      (omega arith, λ i. (c.sum.ensures.spare ∙ found) i ++ drop (past i) c.args.spare.now),
+    let long = c.if-is_short.false in (
+      omega (arith, c.is_short.ensures.start long),
+      (omega (arith, c.is_short.ensures.sums long), λ i. found i ++ drop (past i) c.args.sums.now),
+      (omega (arith, c.is_short.ensures.spare long), λ i. (c.sum.ensures.spare ∙ found) i ++ drop (past i) c.args.spare.now),
     )
