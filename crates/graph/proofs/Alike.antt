@@ -1,6 +1,7 @@
 -- Graphs that differ in what does not matter to a walk.
-use Rattle.std.proofs.Common.{◌≡◌, ℕ, zero, suc, ◌+◌, ◌<◌, ◌≤◌, Bool, cond, not, ◌&&◌, eqb, ltb, List, [], ◌∷◌, ◌++◌, map, length, get_or, filter, sym, refl, ap, ◌∙◌, subst, ⊎_elim, arith}
+use Rattle.std.proofs.Common.{◌≡◌, ℕ, ◌+◌, ◌<◌, ◌≤◌, Bool, cond, not, ◌&&◌, eqb, ltb, List, [], ◌∷◌, ◌++◌, map, length, get_or, filter, sym, refl, ap, ◌∙◌, subst, ⊎_elim, arith}
 use Rattle.std.specs.List.{range_with_len, flat_map}
+use Rattle.std.proofs.Math.ListN.{get_or-map}
 use Rattle.std.proofs.lemmas.List.{length-map}
 use Rattle.std.proofs.lemmas.Bool.{cases_lt, le-ltb}
 use Rattle.walk.specs.declared.visit.Visit.{Visit}
@@ -9,7 +10,7 @@ use Rattle.walk.specs.declared.crossing.Ways.{Ways}
 use Rattle.walk.specs.Edges.{Edge, from, to, is_edge, edges, has_next, crossing, no_crossing}
 use Rattle.walk.specs.Edges.Edge.{path_edge, plan_edge, reversed_edge}
 use Rattle.walk.specs.Walks.{GraphWalk}
-use Rattle.walk.specs.Ways.{Candidate, test_ways, TestWalk, Tested}
+use Rattle.walk.specs.Ways.{Candidate, test_ways, TestWalk, Passes, Tested}
 use Rattle.walk.proofs.Timely.{Timely}
 use Rattle.graph.specs.Graphs.{one_way}
 
@@ -43,10 +44,8 @@ module _ (vs : List Visit) (cs : List Crossing) (ways others : ℕ → Ways) (sa
 
 -- ---- crossings that differ only in which are two-way
 
-pub get_or_one_way : (cs : List Crossing) (k : ℕ) → get_or (map one_way cs) k no_crossing ≡ one_way (crossing cs k)
-get_or_one_way [] k = refl
-get_or_one_way (x ∷ cs) zero = refl
-get_or_one_way (x ∷ cs) (suc k) = get_or_one_way cs k
+get_or_one_way : (cs : List Crossing) (k : ℕ) → get_or (map one_way cs) k no_crossing ≡ one_way (crossing cs k)
+get_or_one_way cs k = get_or-map one_way cs k no_crossing
 
 module _ (cs ds : List Crossing) (alike : map one_way cs ≡ map one_way ds) where
   pub shapes : (k : ℕ) → one_way (crossing cs k) ≡ one_way (crossing ds k)
@@ -81,7 +80,7 @@ module _ (cs ds : List Crossing) (alike : map one_way cs ≡ map one_way ds) whe
           clear = λ k h. rw (← firsts k, ← seconds k) (t.clear k (omega (arith, lengths)));
         }
 
-    pub candidate_alike : (k : ℕ) → Candidate vs cs k → Candidate vs ds k
+    candidate_alike : (k : ℕ) → Candidate vs cs k → Candidate vs ds k
     candidate_alike k (s, n) = (rw (← firsts k) s, rw (← seconds k) n)
 
     edges_alike : (ways : ℕ → Ways) (e : Edge) → is_edge vs cs ways e ≡ is_edge vs ds ways e
@@ -104,16 +103,23 @@ module _ (cs ds : List Crossing) (alike : map one_way cs ≡ map one_way ds) whe
             reversed = ⊎_elim (λ l. ap (λ b. ltb j k && b) (before j l)) (λ l. ap (λ b. b && (crossing cs j).two_way) (le-ltb j k l) ∙ sym (ap (λ b. b && (crossing ds j).two_way) (le-ltb j k l))) (cases_lt j k) i;
           }
 
-      pub test_alike : (w : List Edge) → TestWalk vs cs k w → TestWalk vs ds k w
+      test_alike : (w : List Edge) → TestWalk vs cs k w → TestWalk vs ds k w
       test_alike w h =
           let P : ℕ → ℕ → Type 0 = λ u v. GraphWalk vs ds (test_ways ds k) u (v + 1) w in
           let moved : GraphWalk vs cs (test_ways ds k) (crossing cs k).first ((crossing cs k).second + 1) w =
           ways_walk vs cs (test_ways cs k) (test_ways ds k) (λ j l. ways_alike j) _ _ w h in
           subst (λ u. P u (crossing ds k).second) (firsts k) (subst (P (crossing cs k).first) (seconds k) (walk_alike (test_ways ds k) _ _ w moved))
 
-pub tested_alike : (vs : List Visit) (cs ds : List Crossing) (k : ℕ) → map one_way cs ≡ map one_way ds → ((j : ℕ) → j ≤ k → (crossing cs j).two_way ≡ (crossing ds j).two_way) → Tested vs cs k → Tested vs ds k
+-- whether crossing k passes the test depends on the shapes and on which crossings before it are two-way
+pub passes_alike : (vs : List Visit) (cs ds : List Crossing) → map one_way cs ≡ map one_way ds
+    → (k : ℕ) → ((j : ℕ) → j < k → (crossing cs j).two_way ≡ (crossing ds j).two_way) → Passes vs cs k → Passes vs ds k
+passes_alike vs cs ds alike k before (can, free) =
+    (candidate_alike cs ds alike vs k can, λ w h. free w (test_alike ds cs (sym alike) vs k (λ j l. sym (before j l)) w h))
+
+pub tested_alike : (vs : List Visit) (cs ds : List Crossing) (k : ℕ) → map one_way cs ≡ map one_way ds
+    → ((j : ℕ) → j ≤ k → (crossing cs j).two_way ≡ (crossing ds j).two_way) → Tested vs cs k → Tested vs ds k
 tested_alike vs cs ds k alike same t =
     let here = same k (omega arith) in (
-      λ e. let (c, free) = t.0 (here ∙ e) in (candidate_alike cs ds alike vs k c, λ w h. free w (test_alike ds cs (sym alike) vs k (λ j l. sym (same j (omega arith))) w h)),
-      λ (c, free). sym here ∙ t.1 (candidate_alike ds cs (sym alike) vs k c, λ w h. free w (test_alike cs ds alike vs k (λ j l. same j (omega arith)) w h)),
+      λ e. passes_alike vs cs ds alike k (λ j l. same j (omega arith)) (t.0 (here ∙ e)),
+      λ p. sym here ∙ t.1 (passes_alike vs ds cs (sym alike) k (λ j l. sym (same j (omega arith))) p),
     )

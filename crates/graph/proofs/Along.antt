@@ -3,7 +3,7 @@ use Rattle.std.proofs.Common.{◌≡◌, ℕ, zero, suc, ◌+◌, ◌<◌, true,
 use Rattle.std.specs.List.{range_with_len, flat_map, AllByRecursion}
 use Rattle.std.proofs.lemmas.List.{get_or-take}
 use Rattle.std.proofs.lemmas.List.FromFn.{fill_by_all, length-map-range_with_len, get_or-map-range_with_len}
-use Rattle.std.proofs.ByRecursion.{All-map, All-weaker, kept_by_passes}
+use Rattle.std.proofs.ByRecursion.{All-get_or, All-map, All-weaker, kept_by_passes}
 use Rattle.std.proofs.lemmas.Bool.{and_parts, ltb-true}
 use Rattle.walk.specs.declared.visit.Visit.{Visit}
 use Rattle.walk.specs.declared.crossing.Crossing.{Crossing}
@@ -13,7 +13,8 @@ use Rattle.walk.specs.Edges.Edge.{path_edge, plan_edge, reversed_edge}
 use Rattle.walk.specs.Values.{Operations, Laws}
 use Rattle.walk.specs.Sums.{total, sum_over, sum_at}
 use Rattle.walk.proofs.Sums.{over_edge, sum_none, sum_more, sum_starts}
-use Rattle.graph.specs.Links.{link, links, link_from, link_to, Within, Between}
+use Rattle.graph.specs.Links.{link, links, link_from, link_to, Within, Inside}
+use Rattle.graph.specs.Between.{Between}
 use Rattle.graph.specs.Inputs.{starts_in}
 
 pub next_there : (vs : List Visit) (v : ℕ) → has_next vs v ≡ true → v + 1 < length vs
@@ -38,8 +39,10 @@ module _ (vs : List Visit) (cs : List Crossing) (ways : ℕ → Ways) (between :
   edges_from : AllByRecursion (λ e. from cs e < length vs) (edges vs cs ways)
   edges_from = All-weaker (λ e. Within (length vs) (link cs e)) (λ e. from cs e < length vs) (λ e w. w.0) (edges vs cs ways) edges_within
 
-  pub links_within : AllByRecursion (Within (length vs)) (links vs cs ways)
-  links_within = All-map (Within (length vs)) (link cs) (edges vs cs ways) edges_within
+  pub links_within : Inside (length vs) (links vs cs ways)
+  links_within k h =
+      All-get_or (Within (length vs)) (links vs cs ways) k (record { from = 0; to = 0 }) h
+      (All-map (Within (length vs)) (link cs) (edges vs cs ways) edges_within)
 
 module _ {K : Type 0} (ops : Operations K) (laws : Laws ops) (vs : List Visit) (cs : List Crossing) (es : List Edge) (start : ℕ → K) where
   over_links : (f g : ℕ → K) → ((u : ℕ) → f u ≡ g u) → (v : ℕ) (fs : List Edge) → map (over_edge ops laws vs link_from link_to start f v) (map (link cs) fs) ≡ map (over_edge ops laws vs (from cs) (to cs) start g v) fs

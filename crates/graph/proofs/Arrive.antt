@@ -1,14 +1,13 @@
 -- Every carrier arrives: the sums over a plan's edges reach its last visit.
-use Rattle.std.proofs.Common.{◌≡◌, ℕ, ◌<◌, ◌≤◌, true, cond, eqb, ltb, List, length, is_some, Some, None, Option, sym, refl, ap, ◌∙◌, subst, arith}
+use Rattle.std.proofs.Common.{◌≡◌, ℕ, ◌<◌, ◌≤◌, true, eqb, ltb, List, length, is_some, Some, None, Option, sym, refl, ap, ◌∙◌, subst, arith}
 use lib.Bits.{bit_or, or_self, or_comm}
-use Rattle.std.proofs.lemmas.List.FromFn.{get_or-map-range_with_len}
 use Rattle.std.proofs.lemmas.Bool.{cond-true, cond_both, eqb-true, lt-ltb, false≢true}
 use Rattle.record.proofs.Sound.{draft_length}
 use Rattle.plan.specs.declared.accepted.Plan.{Plan}
 use Rattle.plan.specs.Plans.{plan_draft}
 use Rattle.walk.specs.declared.visit.Visit.{Visit}
 use Rattle.walk.specs.declared.crossing.Crossing.{Crossing}
-use Rattle.walk.specs.Edges.{visit, is_start}
+use Rattle.walk.specs.Edges.{visit}
 use Rattle.walk.specs.Values.{Operations}
 use Rattle.walk.specs.Kinds.{larger, one_more, steps, first_step, carrier_bit, with_carrier, sets, own_carrier}
 use Rattle.walk.specs.Unions.{or_assoc}
@@ -19,15 +18,8 @@ use Rattle.graph.specs.Graphs.{held}
 use Rattle.graph.specs.declared.graph.Graph.{Graph}
 use Rattle.graph.specs.Inputs.{starts_in}
 use Rattle.graph.specs.Verdicts.{graph_draft, graph_visits, graph_crossings}
+use Rattle.graph.proofs.Started.{starts_at}
 use Rattle.graph.specs.Figures.{plan_ways, starts, plan_sum, earliest_step, InSet, Arrives}
-
--- what a first visit starts with
-starts_with :
-    {K : Type 0} (blank : K) (start : Visit → K) (vs : List Visit) (u : ℕ) → u < length vs → is_start vs u ≡ true
-    → starts_in blank (starts blank start vs) u ≡ start (visit vs u)
-starts_with blank start vs u h first =
-    get_or-map-range_with_len (λ v. cond (is_start vs v) (start (visit vs v)) blank) 0 (length vs) u u blank h (omega arith)
-    ∙ cond-true _ _ _ first
 
 -- what a carrier's first visit starts with comes to each of its visits, if neither a join nor a step loses it
 arrives :
@@ -36,7 +28,7 @@ arrives :
     → ((a : Visit) → a.carrier ≡ (visit vs v).carrier → Live (start a)) → Live (plan_sum ops start vs cs v)
 arrives ops Live keeps start vs cs v h live =
     first_live ops Live keeps vs cs plan_ways (starts_in ops.zero (starts ops.zero start vs)) v h
-    (λ u l first own. subst Live (sym (starts_with ops.zero start vs u l first)) (live (visit vs u) own))
+    (λ u l first own. subst Live (sym (starts_at ops.zero start vs u l ∙ cond-true _ _ _ first)) (live (visit vs u) own))
 
 -- ---- earliest steps
 
@@ -111,7 +103,7 @@ module _ (g : Graph) (i : ℕ) (carried : i < (graph_draft g).carriers) where
   abbrev last : ℕ
   last = last_visit (graph_draft g) i
 
-  graph_last : LastOf (graph_visits g) i (last_visit (graph_draft g) i)
+  pub graph_last : LastOf (graph_visits g) i (last_visit (graph_draft g) i)
   graph_last =
       let P : List Visit → Type 0 = λ xs. LastOf xs i last in
       subst P (sym g.visited) (held_last g.plan i carried)

@@ -1,31 +1,28 @@
 -- What a graph's invariant gives.
-use Rattle.std.proofs.Common.{◌≡◌, ℕ, ◌≤◌, List, [], ◌∷◌, ◌++◌, map, length, Some, None, filter, Option, sym, refl, ap, ◌∙◌, subst, arith}
+use Rattle.std.proofs.Common.{◌≡◌, ℕ, List, [], ◌∷◌, ◌++◌, map, length, Some, None, filter, Option, sym, refl, ap, ◌∙◌, subst, arith}
 use mathlib.Core.Bool.{Bool-set}
 use mathlib.Core.HLevel.{Π_prop, ×_prop, ⊥_prop}
 use mathlib.Core.Logic.{∥∥₁_elim}
 use Rattle.std.specs.List.{range_with_len, flat_map}
-use Rattle.std.proofs.lemmas.List.{map-append, length-map}
-use Rattle.fixed.proofs.Held.{items_few}
+use Rattle.std.proofs.lemmas.List.{map-append}
 use Rattle.fault.specs.declared.kinds.Conflict.TheVariants.{Clash, Following}
 use Rattle.record.specs.Layout.{Draft}
 use Rattle.plan.specs.declared.accepted.Plan.{Plan}
 use Rattle.plan.specs.Conflicts.{ConflictFree}
 use Rattle.walk.specs.declared.visit.Visit.{Visit}
 use Rattle.walk.specs.declared.crossing.Crossing.{Crossing}
-use Rattle.walk.specs.Edges.{crossing}
 use Rattle.walk.specs.Ways.{NoCircle}
 use Rattle.walk.proofs.Timely.{Timely}
 use Rattle.walk.proofs.Circle.{tested_no_circle}
 use Rattle.visit.specs.Visits.{plan_visits}
 use Rattle.visit.specs.Crossings.{crosses, crossing_of, crossings_from, plan_crossings}
 use Rattle.visit.proofs.Times.{plan_timely}
-use Rattle.graph.specs.Links.{Between}
+use Rattle.graph.specs.Between.{Between}
 use Rattle.graph.specs.declared.graph.Graph.{Graph}
 use Rattle.graph.specs.Graphs.{one_way, AllTested, GraphOf, held}
-use Rattle.graph.specs.Tests.{Untested}
 use Rattle.graph.specs.Verdicts.{graph_draft, graph_visits, graph_crossings}
 use Rattle.graph.proofs.Along.{next_there}
-use Rattle.graph.proofs.Alike.{timely_alike, get_or_one_way}
+use Rattle.graph.proofs.Alike.{timely_alike}
 
 -- there is one proof at most, so that the invariant can state it
 pub judged : (vs : List Visit) (cs : List Crossing) (n : ℕ) → ∥ AllTested vs cs n ∥₁ → AllTested vs cs n
@@ -46,9 +43,6 @@ all_one_way vs (u ∷ us) =
 
 pub plan_one_way : (vs : List Visit) → map one_way (plan_crossings vs) ≡ plan_crossings vs
 plan_one_way vs = all_one_way vs (range_with_len 0 (length vs))
-
-pub untested : (cs : List Crossing) → map one_way cs ≡ cs → Untested cs 0
-untested cs e k l = ap (λ x. x.two_way) (ap (λ xs. crossing xs k) (sym e) ∙ get_or_one_way cs k)
 
 -- ---- the times of a graph's visits
 
@@ -78,19 +72,3 @@ module _ (g : Graph) where
   -- whatever directions are chosen, a graph has no circle
   pub graph_acyclic : NoCircle (graph_visits g) (graph_crossings g)
   graph_acyclic = tested_no_circle (graph_visits g) (graph_crossings g) timely graph_judges
-
-  -- a plan that has a graph has no more crossings than a graph holds
-  pub graph_fits : length (plan_crossings (plan_visits (graph_draft g))) ≤ 1024
-  graph_fits =
-      omega (
-        arith,
-        items_few g.crossings,
-        length-map (graph_crossings g) one_way,
-        ap length g.crossed,
-        ap (λ vs. length (plan_crossings vs)) g.visited,
-      )
-
-  -- what sums ask of the lists of visits and crossings that code has of the graph
-  pub graph_ready : (vs : List Visit) (cs : List Crossing) → vs ≡ graph_visits g → cs ≡ graph_crossings g → (length vs ≤ 512) × (length cs ≤ 1024) × Between (length vs) cs
-  graph_ready vs cs v c =
-      rw (v, c) (items_few g.visits, items_few g.crossings, timely_between (graph_visits g) (graph_crossings g) timely)

@@ -1,10 +1,11 @@
 pub mod Rounds
 pub mod Linked
 pub mod Along
+pub mod Filled
 pub mod Alike
 pub mod Reached
 pub mod Testing
 pub mod Facts
-pub mod Judging
 pub mod Single
+pub mod Started
 pub mod Arrive

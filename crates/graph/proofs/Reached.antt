@@ -1,44 +1,17 @@
 -- Marks decide whether a walk leads from one visit to another.
-use Rattle.std.proofs.Common.{◌≡◌, ℕ, ◌<◌, ◌≤◌, true, false, List, [], ◌∷◌, length, get_or, take, set, replicate, Decides, sym, ap, ◌∙◌, ⊎_elim, arith}
+use Rattle.std.proofs.Common.{◌≡◌, ℕ, ◌<◌, true, List, [], ◌∷◌, length, Decides, arith}
 use Rattle.std.specs.List.{AllByRecursion}
-use Rattle.std.proofs.lemmas.List.{length-replicate, length-take, get_or-take, get_or_past, get_or-replicate, get_or-set_same, get_or-set_other}
-use Rattle.std.proofs.lemmas.Bool.{cases_eq, cases_lt, eq-eqb, ne_eqb}
 use Rattle.walk.specs.declared.visit.Visit.{Visit}
 use Rattle.walk.specs.declared.crossing.Crossing.{Crossing}
 use Rattle.walk.specs.declared.crossing.Ways.{Ways}
 use Rattle.walk.specs.Edges.{Edge, from, is_edge}
 use Rattle.walk.specs.Walks.{GraphWalk}
-use Rattle.walk.specs.Kinds.{mark, marks}
+use Rattle.walk.specs.Kinds.{marks}
 use Rattle.walk.specs.Sums.{sum_at}
 use Rattle.walk.proofs.Straight.{trail, straighten, short}
 use Rattle.walk.proofs.Marked.{marked_at, mark_walk, walk_mark}
-use Rattle.graph.specs.Links.{Between}
-use Rattle.graph.specs.Inputs.{starts_in}
+use Rattle.graph.specs.Between.{Between}
 use Rattle.graph.proofs.Along.{edge_within}
-
--- one mark among n visits
-pub one_marked : (n m u : ℕ) → u < n → n ≤ m → starts_in (mark false) (take n (set (replicate m (mark false)) u (mark true))) ≡ marked_at u
-one_marked n m u h le = λ i x. at x i
-  where
-    within : (x : ℕ) → x < n → get_or (take n (set (replicate m (mark false)) u (mark true))) x (mark false) ≡ marked_at u x
-    within x l =
-        get_or-take n (set (replicate m (mark false)) u (mark true)) x (mark false) l
-        ∙ ⊎_elim
-        (λ e. ap (λ y. get_or (set (replicate m (mark false)) u (mark true)) y (mark false)) e
-        ∙ get_or-set_same (replicate m (mark false)) u (mark true) (mark false) (omega (arith, length-replicate m (mark false)))
-        ∙ ap mark (sym (eq-eqb x u e)))
-        (λ e. get_or-set_other (replicate m (mark false)) u x (mark true) (mark false) e
-        ∙ get_or-replicate m x (mark false) (mark false) (omega arith)
-        ∙ ap mark (sym (ne_eqb x u e)))
-        (cases_eq x u)
-
-    past : (x : ℕ) → n ≤ x → get_or (take n (set (replicate m (mark false)) u (mark true))) x (mark false) ≡ marked_at u x
-    past x l =
-        get_or_past _ x (mark false) (omega (arith, length-take n (set (replicate m (mark false)) u (mark true))))
-        ∙ ap mark (sym (ne_eqb x u (λ e. omega arith)))
-
-    at : (x : ℕ) → get_or (take n (set (replicate m (mark false)) u (mark true))) x (mark false) ≡ marked_at u x
-    at x = ⊎_elim (within x) (past x) (cases_lt x n)
 
 module _ (vs : List Visit) (cs : List Crossing) (ways : ℕ → Ways) (between : Between (length vs) cs) (u : ℕ) (there : u < length vs) where
   trail_there : (v : ℕ) (w : List Edge) → GraphWalk vs cs ways u v w → AllByRecursion (λ x. x < length vs) (trail cs v w)

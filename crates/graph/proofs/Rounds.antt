@@ -2,7 +2,7 @@
 use Rattle.std.proofs.Common.{◌≡◌, ℕ, suc, ◌+◌, ◌-◌, ◌<◌, ◌≤◌, cond, List, map, length, get_or, take, set, sym, refl, ap, ◌∙◌, subst, ⊎_elim, add-one, arith, eq-eqb, ne_eqb}
 use Rattle.std.specs.List.{AllByRecursion}
 use Rattle.std.proofs.lemmas.Bool.{cases_eq}
-use Rattle.std.proofs.ByRecursion.{All-get_or, All-weaker}
+use Rattle.std.proofs.ByRecursion.{All-from_get_or}
 use Rattle.std.proofs.lemmas.List.{map_more, get_or-set_same, get_or-set_other}
 use Rattle.walk.specs.declared.visit.Visit.{Visit}
 use Rattle.walk.specs.Edges.{visit}
@@ -10,14 +10,14 @@ use Rattle.walk.specs.Values.{Operations, Laws}
 use Rattle.walk.specs.Sums.{total, sum_over}
 use Rattle.walk.proofs.Sums.{join_zero, total_push, over_same, sum_more, sum_stays}
 use Rattle.graph.specs.declared.links.Link.{Link}
-use Rattle.graph.specs.Links.{Within, link_from, link_to}
+use Rattle.graph.specs.Links.{Inside, link_from, link_to}
 use Rattle.graph.specs.Rounds.{brings, round_at}
 
-abbrev pub link_at : List Link → ℕ → Link
-link_at ls i = get_or ls i (record { from = 0; to = 0 })
+abbrev no_link : Link
+no_link = record { from = 0; to = 0 }
 
-pub link_within : (n : ℕ) (ls : List Link) (i : ℕ) → i < length ls → AllByRecursion (Within n) ls → Within n (link_at ls i)
-link_within n ls i h all = All-get_or (Within n) ls i (record { from = 0; to = 0 }) h all
+abbrev pub link_at : List Link → ℕ → Link
+link_at ls i = get_or ls i no_link
 
 module _ {K : Type 0} (ops : Operations K) (laws : Laws ops) (vs : List Visit) (start : List K) where
   -- no link yet
@@ -57,11 +57,11 @@ module _ {K : Type 0} (ops : Operations K) (laws : Laws ops) (vs : List Visit) (
   abbrev sum : List Link → ℕ → ℕ → K
   sum ls = sum_over ops vs link_from link_to ls (λ u. get_or start u ops.zero)
 
-  sources : (n : ℕ) (ls : List Link) → AllByRecursion (Within n) ls → AllByRecursion (λ l. l.from < n) ls
-  sources n ls all = All-weaker (Within n) (λ l. l.from < n) (λ l w. w.0) ls all
+  sources : (n : ℕ) (ls : List Link) → Inside n ls → AllByRecursion (λ l. l.from < n) ls
+  sources n ls inside = All-from_get_or (λ l. l.from < n) ls no_link (λ i h. (inside i h).0)
 
   -- a round over the sums of k links gives those of one link more
-  pub round_sum : (values : List K) (ls : List Link) (k n : ℕ) → AllByRecursion (Within n) ls → ((u : ℕ) → u < n → get_or values u ops.zero ≡ sum_over ops vs link_from link_to ls (λ w. get_or start w ops.zero) k u) → (v : ℕ) → round_at ops vs start values ls v ≡ sum_over ops vs link_from link_to ls (λ w. get_or start w ops.zero) (k + 1) v
+  pub round_sum : (values : List K) (ls : List Link) (k n : ℕ) → Inside n ls → ((u : ℕ) → u < n → get_or values u ops.zero ≡ sum_over ops vs link_from link_to ls (λ w. get_or start w ops.zero) k u) → (v : ℕ) → round_at ops vs start values ls v ≡ sum_over ops vs link_from link_to ls (λ w. get_or start w ops.zero) (k + 1) v
   unfolding round_at
   round_sum values ls k n within same v =
       let from : ℕ → K = λ u. get_or start u ops.zero in
@@ -70,7 +70,7 @@ module _ {K : Type 0} (ops : Operations K) (laws : Laws ops) (vs : List Visit) (
       ∙ ap (λ j. sum ls j v) (sym (add-one k))
 
   -- a round that changes nothing is the last
-  pub sum_settled : (values next : List K) (ls : List Link) (k n : ℕ) → AllByRecursion (Within n) ls → k ≤ n → values ≡ next → ((u : ℕ) → u < n → get_or next u ops.zero ≡ round_at ops vs start values ls u) → ((u : ℕ) → u < n → get_or values u ops.zero ≡ sum_over ops vs link_from link_to ls (λ w. get_or start w ops.zero) k u) → (v : ℕ) → v < n → get_or next v ops.zero ≡ sum_over ops vs link_from link_to ls (λ w. get_or start w ops.zero) n v
+  pub sum_settled : (values next : List K) (ls : List Link) (k n : ℕ) → Inside n ls → k ≤ n → values ≡ next → ((u : ℕ) → u < n → get_or next u ops.zero ≡ round_at ops vs start values ls u) → ((u : ℕ) → u < n → get_or values u ops.zero ≡ sum_over ops vs link_from link_to ls (λ w. get_or start w ops.zero) k u) → (v : ℕ) → v < n → get_or next v ops.zero ≡ sum_over ops vs link_from link_to ls (λ w. get_or start w ops.zero) n v
   sum_settled values next ls k n within le quiet round now v h =
       let here : (u : ℕ) → u < n → get_or next u ops.zero ≡ sum ls k u = λ u l. ap (λ xs. get_or xs u ops.zero) (sym quiet) ∙ now u l in
       let still : (u : ℕ) → u < n → sum ls (suc k) u ≡ sum ls k u =

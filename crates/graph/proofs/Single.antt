@@ -1,5 +1,6 @@
 -- A plan has one graph, and a record one verdict.
-use Rattle.std.proofs.Common.{◌≡◌, ℕ, zero, suc, ◌<◌, ◌≤◌, Bool, true, false, List, map, length, Ok, Err, Result, sym, refl, ap, ◌∙◌, subst, arith, below_more}
+use Rattle.std.proofs.Common.{◌≡◌, ℕ, zero, suc, ◌<◌, ◌≤◌, List, map, length, Ok, Err, Result, sym, refl, ap, ◌∙◌, subst, arith, below_more}
+use Rattle.std.proofs.lemmas.Bool.Decides.{same_from_decides}
 use Rattle.std.proofs.lemmas.List.{ext_get_or}
 use Rattle.fault.specs.declared.kinds.Flaw.TheVariants.{Carrier, Cell, Neighbour}
 use Rattle.fault.specs.declared.kinds.Conflict.TheVariants.{Clash, Following}
@@ -17,31 +18,18 @@ use Rattle.plan.proofs.Only.{only}
 use Rattle.walk.specs.declared.visit.Visit.{Visit}
 use Rattle.walk.specs.declared.crossing.Crossing.{Crossing}
 use Rattle.walk.specs.Edges.{crossing, no_crossing}
-use Rattle.walk.specs.Ways.{Passes}
 use Rattle.visit.specs.Crossings.{plan_crossings}
 use Rattle.graph.specs.declared.graph.Graph.{Graph}
 use Rattle.graph.specs.Graphs.{one_way, AllTested, GraphOf}
 use Rattle.graph.specs.Verdicts.{graph_draft, graph_visits, graph_crossings, graph_number, GraphApplies, GraphJudged, GraphIs}
-use Rattle.graph.proofs.Alike.{shapes, lengths, candidate_alike, test_alike}
+use Rattle.graph.proofs.Alike.{shapes, lengths, passes_alike}
 use Rattle.graph.proofs.Facts.{graph_built, timely}
 
 -- ---- a plan has one graph
 
--- two flags, each true where the other is
-same_flag : (s t : Bool) → (s ≡ true → t ≡ true) → (t ≡ true → s ≡ true) → s ≡ t
-same_flag true t up down = sym (up refl)
-same_flag false true up down = down refl
-same_flag false false up down = refl
-
 -- crossing k is two-way in both or in neither
 abbrev SameWay : List Crossing → List Crossing → ℕ → Type 0
 SameWay cs ds k = (crossing cs k).two_way ≡ (crossing ds k).two_way
-
--- whether crossing k passes the test depends on the shapes and on which crossings before it are two-way
-passes_alike : (vs : List Visit) (cs ds : List Crossing) → map one_way cs ≡ map one_way ds →
-    (k : ℕ) → ((j : ℕ) → j < k → SameWay cs ds j) → Passes vs cs k → Passes vs ds k
-passes_alike vs cs ds alike k before (c, free) =
-    (candidate_alike cs ds alike vs k c, λ w h. free w (test_alike ds cs (sym alike) vs k (λ j l. sym (before j l)) w h))
 
 module _ (vs : List Visit) (cs ds : List Crossing) (alike : map one_way cs ≡ map one_way ds)
     (judged : AllTested vs cs (length cs)) (others : AllTested vs ds (length ds)) where
@@ -54,7 +42,7 @@ module _ (vs : List Visit) (cs ds : List Crossing) (alike : map one_way cs ≡ m
       let there = others n (omega (arith, lengths cs ds alike)) in
       let up = passes_alike vs cs ds alike n before in
       let down = passes_alike vs ds cs (sym alike) n (λ j m. sym (before j m)) in
-      let same = same_flag _ _ (λ e. there.1 (up (here.0 e))) (λ e. here.1 (down (there.0 e))) in
+      let same = same_from_decides _ _ here (λ e. down (there.0 e), λ p. there.1 (up p)) in
       below_more (SameWay cs ds) n before same k (omega arith)
 
   -- a crossing is its shape and whether it is two-way

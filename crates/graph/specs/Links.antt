@@ -1,5 +1,6 @@
 -- Edges as the code keeps them: the visits that they lead from and to.
-use Rattle.std.specs.Prelude.{ℕ, ◌+◌, ◌<◌, cond, ◌&&◌, List, [], ◌∷◌, ◌++◌, map, length}
+use Rattle.std.specs.Prelude.{ℕ, ◌+◌, ◌<◌, ◌&&◌, if◌then◌else◌, List, ◌++◌, map, length, slice_index_or, Option, Some, None}
+use Rattle.std.specs.Option.{option_to_list}
 use Rattle.walk.specs.declared.visit.Visit.{Visit}
 use Rattle.walk.specs.declared.crossing.Crossing.{Crossing}
 use Rattle.walk.specs.declared.crossing.Ways.{Ways}
@@ -22,19 +23,22 @@ link_to l = l.to
 abbrev pub Within : ℕ → Link → Type 0
 Within n l = (l.from < n) × (l.to < n)
 
--- the link from visit v along its carrier's path, if it goes on
-abbrev pub path_link : List Visit → ℕ → List Link
-path_link vs v = cond (has_next vs v) (record { from = v; to = v + 1 } ∷ []) []
+-- all of the links are
+abbrev pub Inside : ℕ → List Link → Type 0
+Inside n ls = (k : ℕ) → k < length ls → Within n (slice_index_or ls k (record { from = 0; to = 0 }))
 
--- the links of a crossing that are taken
-abbrev pub taken_links : List Visit → Crossing → Ways → List Link
-taken_links vs x taken =
-    cond taken.plan (record { from = x.first + 1; to = x.second } ∷ []) []
-    ++ cond (taken.reversed && has_next vs x.second) (record { from = x.second + 1; to = x.first } ∷ []) []
+-- the link from visit v along its carrier's path, if it goes on
+abbrev pub path_link : List Visit → ℕ → Option Link
+path_link vs v = if has_next vs v then Some (record { from = v; to = v + 1 }) else None
+
+-- the links of a crossing, if they are taken
+abbrev pub plan_link : Crossing → Ways → Option Link
+plan_link x taken = if taken.plan then Some (record { from = x.first + 1; to = x.second }) else None
+
+abbrev pub reversed_link : List Visit → Crossing → Ways → Option Link
+reversed_link vs x taken =
+    if taken.reversed && has_next vs x.second then Some (record { from = x.second + 1; to = x.first }) else None
 
 abbrev pub crossing_links : List Visit → List Crossing → (ℕ → Ways) → ℕ → List Link
-crossing_links vs cs ways k = taken_links vs (crossing cs k) (ways k)
-
--- crossings between n visits, with a visit after each first one
-abbrev pub Between : ℕ → List Crossing → Type 0
-Between n cs = (k : ℕ) → k < length cs → ((crossing cs k).first + 1 < n) × ((crossing cs k).second < n)
+crossing_links vs cs ways k =
+    option_to_list (plan_link (crossing cs k) (ways k)) ++ option_to_list (reversed_link vs (crossing cs k) (ways k))

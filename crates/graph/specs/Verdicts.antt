@@ -4,7 +4,6 @@ use Rattle.fault.specs.declared.kinds.GraphFault.{GraphFault}
 use Rattle.fault.specs.declared.kinds.GraphFault.TheVariants.{Plan, Crossings}
 use Rattle.fault.specs.Reports.{graph_report}
 use Rattle.fault.specs.Firsts.{Verdict}
-use Rattle.fixed.specs.Items.{items}
 use Rattle.record.specs.Layout.{Draft, draft}
 use Rattle.plan.specs.Conflicts.{Applies}
 use Rattle.walk.specs.declared.visit.Visit.{Visit}
@@ -12,6 +11,7 @@ use Rattle.walk.specs.declared.crossing.Crossing.{Crossing}
 use Rattle.walk.specs.Edges.{crossing, has_next}
 use Rattle.visit.specs.Visits.{plan_visits}
 use Rattle.visit.specs.Crossings.{plan_crossings}
+use Rattle.graph.specs.Nets.{net_visits, net_crossings}
 use Rattle.graph.specs.declared.graph.Graph.{Graph}
 use Rattle.graph.specs.Graphs.{held, GraphOf}
 
@@ -20,10 +20,10 @@ abbrev pub graph_draft : Graph → Draft
 graph_draft g = held g.plan
 
 abbrev pub graph_visits : Graph → List Visit
-graph_visits g = items g.visits
+graph_visits g = net_visits g.net
 
 abbrev pub graph_crossings : Graph → List Crossing
-graph_crossings g = items g.crossings
+graph_crossings g = net_crossings g.net
 
 abbrev pub graph_number : GraphFault → ℕ
 graph_number f = (graph_report f).number

@@ -1,14 +1,11 @@
 ghost use Rattle.std.specs.Prelude.{◌≡◌, map, length};
-ghost use Rattle.fixed.specs.Items.{items};
 ghost use Rattle.visit.specs.Visits.{plan_visits};
 ghost use Rattle.visit.specs.Crossings.{plan_crossings};
 ghost use Rattle.graph.specs.Graphs.{held, one_way, AllTested};
+ghost use Rattle.graph.specs.Nets.{net_visits, net_crossings};
 
-use fixed::list::Bounded;
+use crate::net::Net;
 use plan::accepted::Plan;
-use record::MAX_ENTRIES;
-use walk::crossing::{Crossing, MAX_CROSSINGS};
-use walk::visit::Visit;
 
 pub mod answers;
 pub mod loads;
@@ -18,9 +15,8 @@ pub mod reads;
 #[derive(Clone, Copy)]
 pub struct Graph {
     plan: Option<Plan>,
-    visits: Bounded<Visit, MAX_ENTRIES>,
-    crossings: Bounded<Crossing, MAX_CROSSINGS>,
-    ghost visited: { items visits ≡ plan_visits (held plan) },
-    ghost crossed: { map one_way (items crossings) ≡ plan_crossings (items visits) },
-    ghost tested: { ∥ AllTested (items visits) (items crossings) (length (items crossings)) ∥₁ },
+    net: Net,
+    ghost visited: { net_visits net ≡ plan_visits (held plan) },
+    ghost crossed: { map one_way (net_crossings net) ≡ plan_crossings (net_visits net) },
+    ghost tested: { ∥ AllTested (net_visits net) (net_crossings net) (length (net_crossings net)) ∥₁ },
 }

@@ -3,5 +3,7 @@
 
 pub mod graph;
 mod links;
+mod net;
+mod plan_sums;
 mod sums;
 mod two_way;

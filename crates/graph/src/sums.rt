@@ -1,92 +1,135 @@
-ghost use Rattle.std.specs.Prelude.{◌≡◌, ℕ, ◌<◌, ◌≤◌, map, length, Decides, slice_index_or, slice_set};
-ghost use Rattle.std.specs.List.{AllByRecursion, range_with_len};
+ghost use Rattle.std.specs.Prelude.{◌≡◌, ℕ, ◌<◌, ◌↔◌, IsTrue, map, length, slice_index_or, slice_set};
+ghost use Rattle.std.specs.List.{range_with_len};
 ghost use Rattle.walk.specs.Edges.{visit};
 ghost use Rattle.walk.specs.Sums.{sum_over, sum_at};
-ghost use Rattle.graph.specs.Links.{Within, Between, link_from, link_to};
+ghost use Rattle.graph.specs.Links.{Within, Inside, link_from, link_to};
 ghost use Rattle.graph.specs.Inputs.{ways_in, starts_in};
+ghost use Rattle.graph.specs.Nets.{net_visits, net_crossings};
 ghost use Rattle.graph.specs.Rounds.{round_at};
 
-use crate::links::{Link, links_of};
-use walk::crossing::{Crossing, MAX_CROSSINGS, Ways};
+use crate::links::Link;
+use crate::net::Net;
+use record::MAX_ENTRIES;
+use walk::crossing::{MAX_CROSSINGS, Ways};
 use walk::kinds::Kind;
 use walk::visit::Visit;
 
-/// What a link brings: the value that it comes from, carried into the visit that it leads to.
-fn bring<K: Kind>(link: Link, visits: &[Visit], values: &[K], next: &mut [K])
-    requires { Within (length visits.now) link × (length values.now ≡ length visits.now) × (length next.old ≡ length visits.now) }
-    ensures { next.new ≡ slice_set next.old link.to (K.ops.join (slice_index_or next.old link.to K.ops.zero) (K.ops.step (slice_index_or values.now link.from K.ops.zero) (visit visits.now link.to))) }
-{
-    let to = link.to as usize;
-    let brought = values[link.from as usize].step(visits[to]);
-    next[to] = next[to].join(brought);
+/// What a sum goes over: the visits, the links between them, and what starts at each visit.
+// The values of a round are no part of it: they are lent to each call, which asks for their lengths.
+#[derive(Drop)]
+struct Sum<'a, K> {
+    visits: &'a [Visit],
+    links: &'a [Link],
+    start: &'a [K],
+    ghost inside: { Inside (length visits.now) links.now },
+    ghost started: { length start.now ≡ length visits.now },
 }
 
-/// One round: what starts at each visit, joined with what every link brings there.
-fn round<K: Kind>(links: &[Link], visits: &[Visit], start: &[K], values: &[K], next: &mut [K])
-    requires inside { AllByRecursion (Within (length visits.now)) links.now }
-    requires sizes { (length start.now ≡ length visits.now) × (length values.now ≡ length visits.now) × (length next.old ≡ length visits.now) }
-    ensures { (v : ℕ) → v < length visits.now → slice_index_or next.new v K.ops.zero ≡ round_at K.ops visits.now start.now values.now links.now v }
+/// Whether two lists have the same values.
+fn same<K: Kind>(values: &[K], next: &[K]) -> bool
+    ensures { IsTrue result ↔ (values.now ≡ next.now) }
 {
-    next.copy_from_slice(start);
-    for link in links {
-        bring(*link, visits, values, next);
-    }
+    values == next
 }
 
 /// Takes `next` over into `values`, and says whether nothing changed.
 fn settle<K: Kind>(values: &mut [K], next: &[K]) -> bool
     requires { length values.old ≡ length next.now }
     ensures after { values.new ≡ next.now }
-    ensures quiet { Decides result (values.old ≡ next.now) }
+    ensures quiet { IsTrue result ↔ (values.old ≡ next.now) }
 {
-    let mut quiet = true;
-    for i in 0..next.len() {
-        if values[i] != next[i] {
-            quiet = false;
-        }
-    }
+    let quiet = same(values, next);
     values.copy_from_slice(next);
     quiet
 }
 
-/// At each visit the sum over all walks of at most as many links as there are visits. A round adds
-/// the walks of one link more; when a round changes nothing, no later one does.
-pub(crate) fn sum_over<K: Kind>(
-    links: &[Link],
-    visits: &[Visit],
-    start: &[K],
-    sums: &mut [K],
-    next: &mut [K],
-)
-    requires inside { AllByRecursion (Within (length visits.now)) links.now }
-    requires sizes { (length start.now ≡ length visits.now) × (length sums.old ≡ length visits.now) × (length next.old ≡ length visits.now) }
-    ensures twins { next.new ≡ sums.new }
-    ensures sums { (v : ℕ) → v < length visits.now → slice_index_or sums.new v K.ops.zero ≡ sum_over K.ops visits.now link_from link_to links.now (λ u. slice_index_or start.now u K.ops.zero) (length visits.now) v }
-{
-    sums.copy_from_slice(start);
-    for _round in 0..visits.len() {
-        round(links, visits, start, sums, next);
-        if settle(sums, next) {
-            return;
+impl<'a, K: Kind> Sum<'a, K> {
+    /// What a link brings: the value that it comes from, carried into the visit that it leads to.
+    fn bring(&self, link: Link, values: &[K], next: &mut [K])
+        requires inside { Within (length self.now.visits.now) link }
+        requires values { length values.now ≡ length self.now.visits.now }
+        requires next { length next.old ≡ length self.now.visits.now }
+        ensures { next.new ≡ slice_set next.old link.to (K.ops.join (slice_index_or next.old link.to K.ops.zero) (K.ops.step (slice_index_or values.now link.from K.ops.zero) (visit self.now.visits.now link.to))) }
+    {
+        let to = usize::from(link.to);
+        let brought = values[usize::from(link.from)].step(self.visits[to]);
+        next[to] = next[to].join(brought);
+    }
+
+    /// One round: what starts at each visit, joined with what every link brings there.
+    fn round(&self, values: &[K], next: &mut [K])
+        requires values { length values.now ≡ length self.now.visits.now }
+        requires next { length next.old ≡ length self.now.visits.now }
+        ensures { (v : ℕ) → v < length self.now.visits.now → slice_index_or next.new v K.ops.zero ≡ round_at K.ops self.now.visits.now self.now.start.now values.now self.now.links.now v }
+    {
+        next.copy_from_slice(self.start);
+        for link in self.links {
+            self.bring(*link, values, next);
+        }
+    }
+
+    /// At each visit the sum over all walks of at most as many links as there are visits. A round
+    /// adds the walks of one link more; when a round changes nothing, no later one does. `next` is
+    /// room for a round, and holds the sums too in the end.
+    fn run(&self, sums: &mut [K], next: &mut [K])
+        requires sums { length sums.old ≡ length self.now.visits.now }
+        requires next { length next.old ≡ length self.now.visits.now }
+        ensures twins { next.new ≡ sums.new }
+        ensures sums { (v : ℕ) → v < length self.now.visits.now → slice_index_or sums.new v K.ops.zero ≡ sum_over K.ops self.now.visits.now link_from link_to self.now.links.now (λ u. slice_index_or self.now.start.now u K.ops.zero) (length self.now.visits.now) v }
+    {
+        sums.copy_from_slice(self.start);
+        for _round in 0..self.visits.len() {
+            self.round(sums, next);
+            if settle(sums, next) {
+                return;
+            }
         }
     }
 }
 
-/// At each visit the sum along the walks of a graph, where `ways` says which edges of each crossing
-/// are taken; `spare` is room for a round, and holds the same in the end.
-pub(crate) fn sum_along<K: Kind>(
-    visits: &[Visit],
-    crossings: &[Crossing],
-    ways: &[Ways; MAX_CROSSINGS],
-    start: &[K],
-    sums: &mut [K],
-    spare: &mut [K],
-)
-    requires there { (length visits.now ≤ 512) × (length crossings.now ≤ 1024) × Between (length visits.now) crossings.now }
-    requires sizes { (length start.now ≡ length visits.now) × (length sums.old ≡ length visits.now) × (length spare.old ≡ length visits.now) }
-    ensures sums { sums.new ≡ map (sum_at K.ops visits.now crossings.now (ways_in ways.now) (starts_in K.ops.zero start.now)) (range_with_len 0 (length visits.now)) }
-    ensures spare { spare.new ≡ sums.new }
-{
-    let links = links_of(visits, crossings, ways);
-    sum_over(links.as_slice(), visits, start, sums, spare);
+impl Net {
+    /// At each visit the sum along the walks of the net, where `ways` says which edges of each
+    /// crossing are taken; `spare` is room for a round, and holds the same in the end.
+    pub(crate) fn sum<K: Kind>(
+        &self,
+        ways: &[Ways; MAX_CROSSINGS],
+        start: &[K],
+        sums: &mut [K],
+        spare: &mut [K],
+    )
+        requires start { length start.now ≡ length (net_visits self.now) }
+        requires sums { length sums.old ≡ length (net_visits self.now) }
+        requires spare { length spare.old ≡ length (net_visits self.now) }
+        ensures sums { sums.new ≡ map (sum_at K.ops (net_visits self.now) (net_crossings self.now) (ways_in ways.now) (starts_in K.ops.zero start.now)) (range_with_len 0 (length (net_visits self.now))) }
+        ensures spare { spare.new ≡ sums.new }
+    {
+        let links = self.links(ways);
+        let sum = Sum {
+            visits: self.visits(),
+            links: links.as_slice(),
+            start,
+        };
+        sum.run(sums, spare);
+    }
+
+    /// The sum at one visit.
+    pub(crate) fn sum_at<K: Kind>(
+        &self,
+        ways: &[Ways; MAX_CROSSINGS],
+        start: &[K; MAX_ENTRIES],
+        visit: usize,
+    ) -> K
+        requires { visit < length (net_visits self.now) }
+        ensures { result ≡ sum_at K.ops (net_visits self.now) (net_crossings self.now) (ways_in ways.now) (starts_in K.ops.zero start.now) visit }
+    {
+        let count = self.visits().len();
+        let (mut sums, mut spare) = (*start, *start);
+        self.sum(
+            ways,
+            &start[..count],
+            &mut sums[..count],
+            &mut spare[..count],
+        );
+        sums[visit]
+    }
 }

@@ -1,12 +1,12 @@
 -- How many visits there are.
-use Rattle.std.proofs.Common.{◌≡◌, ℕ, zero, suc, ◌+◌, ◌≤◌, Bool, cond, eqb, ltb, List, [], ◌∷◌, length, count_by, filter, refl, ap, ◌∙◌, subst, add-one, arith}
-use Rattle.std.specs.List.{range_with_len}
+use Rattle.std.proofs.Common.{◌≡◌, ℕ, zero, suc, ◌+◌, ◌≤◌, Bool, cond, eqb, ltb, List, [], ◌∷◌, length, sum_by, count_by, filter, refl, ap, ◌∙◌, subst, add-one, arith}
+use Rattle.std.specs.List.{range_with_len, flat_map}
 use Rattle.std.proofs.lemmas.List.{length-append, length-map}
 use Rattle.std.proofs.lemmas.List.Sums.{length-filter, count_by-le-length, sum_by-cons}
+use Rattle.std.proofs.lemmas.List.FromFn.{length-range_with_len}
 use Rattle.std.proofs.lemmas.Bool.Decides.{nat_tests}
 use Rattle.record.specs.declared.entry.Entry.{Entry}
 use Rattle.record.specs.Steps.{path, visit_at, visit_count}
-use Rattle.record.proofs.Visits.{visits_le}
 use Rattle.visit.specs.Visits.{visit_of, carrier_visits, first_visits}
 use Rattle.fixed.proofs.Counting.{joined_counting}
 use Rattle.visit.proofs.Picked.{joined_rises}
@@ -23,7 +23,15 @@ visits_rise es = joined_rises (carrier_visits es)
 carrier_few : (es : List Entry) (i : ℕ) → length (carrier_visits es i) ≤ count_by (λ e. eqb e.carrier i) es
 carrier_few es i =
     let own : Entry → Bool = λ e. eqb e.carrier i in
-    omega (arith, carrier_count es i, visits_le (path es i), length-map (filter own es) (λ e. e.cell), length-filter own es)
+    let r : List ℕ = path es i in
+    omega (
+      arith,
+      carrier_count es i,
+      count_by-le-length (visit_at r) (range_with_len 0 (length r)),
+      length-range_with_len 0 (length r),
+      length-map (filter own es) (λ e. e.cell),
+      length-filter own es,
+    )
 
 one_more : (a n : ℕ) → cond (ltb a n) 1 0 + cond (eqb a n) 1 0 ≡ cond (ltb a (n + 1)) 1 0
 one_more a n = grind (arith, nat_tests)
@@ -73,3 +81,21 @@ visits_fit es i =
 -- one carrier more
 pub first_more : (es : List Entry) (n : ℕ) → length (first_visits es (n + 1)) ≡ length (first_visits es n) + length (carrier_visits es n)
 first_more es n = ap length (joined_counting (carrier_visits es) n) ∙ length-append (first_visits es n) (carrier_visits es n)
+
+-- the visits of the first carriers, counted carrier by carrier
+pub count_visits : (es : List Entry) (n : ℕ) → length (first_visits es n) ≡ sum_by (λ i. visit_count (path es i)) (range_with_len 0 n)
+count_visits es n = counted (range_with_len 0 n)
+  where
+    count : ℕ → ℕ
+    count i = visit_count (path es i)
+
+    counted : (is : List ℕ) → length (flat_map (carrier_visits es) is) ≡ sum_by count is
+    counted [] = refl
+    counted (i ∷ is) =
+        omega (
+          arith,
+          length-append (carrier_visits es i) (flat_map (carrier_visits es) is),
+          carrier_count es i,
+          counted is,
+          sum_by-cons count i is,
+        )

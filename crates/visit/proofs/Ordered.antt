@@ -1,6 +1,6 @@
 -- Lists in order, and what the joined, mapped and kept parts of a list hold.
 use Rattle.std.proofs.Common.{◌≡◌, ℕ, zero, suc, ◌+◌, ◌<◌, ◌≤◌, Bool, true, List, [], ◌∷◌, ◌++◌, map, length, get_or, filter, refl, ap, ◌∙◌, zero-add, arith}
-use Rattle.std.specs.List.{range_with_len, flat_map, ContainsAt as Has, AllByRecursion}
+use Rattle.std.specs.List.{range_with_len, flat_map, ContainsAt, AllByRecursion}
 use Rattle.std.proofs.lemmas.List.{length-map, get_or-map}
 use Rattle.std.proofs.ByRecursion.{All-get_or, All-append, All-map, all-has, All-weaker, all_kept_by, has_append_left, has_append_right}
 use Rattle.std.proofs.lemmas.List.FromFn.{length-range_with_len, get_or-range_with_len}
@@ -68,7 +68,7 @@ sorted_counting a (suc n) =
     let on : (k : ℕ) → FromTo (a + 1) n k → a < k = λ k h. omega arith in
     (All-weaker (FromTo (a + 1) n) (λ k. a < k) on (range_with_len (a + 1) n) (all_counting (a + 1) n), sorted_counting (a + 1) n)
 
-all_below : (n : ℕ) → AllByRecursion (λ k. k < n) (range_with_len 0 n)
+pub all_below : (n : ℕ) → AllByRecursion (λ k. k < n) (range_with_len 0 n)
 all_below n = All-weaker (FromTo 0 n) (λ k. k < n) (λ k h. omega arith) (range_with_len 0 n) (all_counting 0 n)
 
 all_kept : {X : Type 0} (P : X → Type 0) (p : X → Bool) (xs : List X) → AllByRecursion P xs → AllByRecursion (λ x. P x × (p x ≡ true)) (filter p xs)
@@ -89,15 +89,15 @@ all_kept_below P f p n each =
     All-map P f ks (All-weaker (λ k. (k < n) × (p k ≡ true)) (λ k. P (f k)) (λ k (h, e). each k h e) ks passed)
 
 -- nothing that is kept, mapped or joined is lost
-pub has_counting : (n k : ℕ) → k < n → Has (range_with_len 0 n) k
+pub has_counting : (n k : ℕ) → k < n → ContainsAt (range_with_len 0 n) k
 has_counting n k h = (k, rw length-range_with_len h, λ d. get_or-range_with_len 0 n k d h ∙ zero-add k)
 
-pub has_map : {X Y : Type 0} (f : X → Y) (xs : List X) (x : X) → Has xs x → Has (map f xs) (f x)
+pub has_map : {X Y : Type 0} (f : X → Y) (xs : List X) (x : X) → ContainsAt xs x → ContainsAt (map f xs) (f x)
 has_map f xs x (k, h, at) = (k, rw length-map h, λ d. get_or-map f xs k x d h ∙ ap f (at x))
 
 module _ {X : Type 0} (p : X → Bool) where
   abbrev Keeps : List X → X → Type 0
-  Keeps xs y = p y ≡ true → Has (filter p xs) y
+  Keeps xs y = p y ≡ true → ContainsAt (filter p xs) y
 
   keeps_all : (xs : List X) → AllByRecursion (Keeps xs) xs
   keeps_all [] = tt
@@ -106,17 +106,17 @@ module _ {X : Type 0} (p : X → Bool) where
     All-weaker (Keeps xs) (Keeps (x ∷ xs)) (λ y h e. grown y (h e)) xs (keeps_all xs),
   )
     where
-      grown : (y : X) → Has (filter p xs) y → Has (filter p (x ∷ xs)) y
+      grown : (y : X) → ContainsAt (filter p xs) y → ContainsAt (filter p (x ∷ xs)) y
       grown y h =
           let ks = filter p xs in
-          cond_both (p x) (x ∷ ks) ks (λ l. Has l y) (λ _. has_append_right (x ∷ []) ks y h) (λ _. h)
+          cond_both (p x) (x ∷ ks) ks (λ l. ContainsAt l y) (λ _. has_append_right (x ∷ []) ks y h) (λ _. h)
 
-  pub has_kept : (xs : List X) (x : X) → Has xs x → p x ≡ true → Has (filter p xs) x
+  pub has_kept : (xs : List X) (x : X) → ContainsAt xs x → p x ≡ true → ContainsAt (filter p xs) x
   has_kept xs x h = all-has (Keeps xs) xs x (keeps_all xs) h
 
 module _ {X Y : Type 0} (f : X → List Y) (y : Y) where
   abbrev Joins : List X → X → Type 0
-  Joins xs x = Has (f x) y → Has (flat_map f xs) y
+  Joins xs x = ContainsAt (f x) y → ContainsAt (flat_map f xs) y
 
   joins_all : (xs : List X) → AllByRecursion (Joins xs) xs
   joins_all [] = tt
@@ -125,5 +125,5 @@ module _ {X Y : Type 0} (f : X → List Y) (y : Y) where
     All-weaker (Joins xs) (Joins (x ∷ xs)) (λ z h own. has_append_right (f x) (flat_map f xs) y (h own)) xs (joins_all xs),
   )
 
-  pub has_joined : (xs : List X) (x : X) → Has xs x → Has (f x) y → Has (flat_map f xs) y
+  pub has_joined : (xs : List X) (x : X) → ContainsAt xs x → ContainsAt (f x) y → ContainsAt (flat_map f xs) y
   has_joined xs x h = all-has (Joins xs) xs x (joins_all xs) h

@@ -1,9 +1,9 @@
 -- Every carrier of a plan has visits of its own, and its last visit is one of them.
-use Rattle.std.proofs.Common.{◌≡◌, ℕ, zero, suc, ◌+◌, ◌-◌, ◌<◌, ◌≤◌, Bool, true, false, ◌&&◌, eqb, ltb, ◌⊎◌, List, [], ◌∷◌, map, length, filter, sym, refl, ap, ◌∙◌, inl, inr, ⊎_elim, add-zero, arith}
+use Rattle.std.proofs.Common.{◌≡◌, ℕ, zero, suc, ◌+◌, ◌-◌, ◌<◌, ◌≤◌, Bool, false, ◌&&◌, eqb, ltb, ◌⊎◌, List, [], ◌∷◌, map, length, filter, sym, refl, ap, ◌∙◌, inl, inr, ⊎_elim, add-zero, arith}
 use Rattle.std.specs.List.{range_with_len}
 use Rattle.std.proofs.lemmas.List.{length-map, get_or_append_left, get_or-append-add}
 use Rattle.std.proofs.ByRecursion.{All-get_or, has_get_or}
-use Rattle.std.proofs.lemmas.Bool.{eq-eqb, ne_eqb, le-ltb, cases_eq, cases_lt}
+use Rattle.std.proofs.lemmas.Bool.{and_right, eq-eqb, ne_eqb, le-ltb, cases_eq, cases_lt}
 use Rattle.fault.specs.declared.kinds.Flaw.TheVariants.{Carrier}
 use Rattle.record.specs.declared.entry.Entry.{Entry}
 use Rattle.record.specs.Layout.{Draft}
@@ -110,10 +110,6 @@ last_ends d sound listed i manned = ⊎_elim goes_on ends (cases_lt (i + 1) d.ca
     next : last_visit d i + 1 ≡ length (first_visits d.entries (i + 1))
     next = omega (arith, first_more d.entries i, some_visits d sound listed i manned)
 
-    none : (b : Bool) → (b && false) ≡ false
-    none true = refl
-    none false = refl
-
     goes_on : i + 1 < d.carriers → has_next (plan_visits d) (last_visit d i) ≡ false
     goes_on h =
         let there : (visit (plan_visits d) (last_visit d i + 1)).carrier ≡ i + 1 =
@@ -121,7 +117,7 @@ last_ends d sound listed i manned = ⊎_elim goes_on ends (cases_lt (i + 1) d.ca
         ∙ own_visit d.entries d.carriers (i + 1) 0 h (some_visits d sound listed (i + 1) h) in
         let apart : eqb (visit (plan_visits d) (last_visit d i + 1)).carrier (visit (plan_visits d) (last_visit d i)).carrier ≡ false =
         ne_eqb _ _ (λ e. omega (arith, last_is_own d sound listed i manned)) in
-        ap (λ b. ltb (last_visit d i + 1) (length (plan_visits d)) && b) apart ∙ none _
+        and_right (ltb (last_visit d i + 1) (length (plan_visits d))) _ apart
 
     ends : d.carriers ≤ i + 1 → has_next (plan_visits d) (last_visit d i) ≡ false
     ends h =

@@ -1,5 +1,5 @@
 -- Lists that grow with a number: the items of the places below it that pass a test, and the lists of all places below it.
-use Rattle.std.proofs.Common.{◌≡◌, ℕ, zero, suc, ◌+◌, ◌<◌, ◌≤◌, Bool, true, false, cond, List, [], ◌∷◌, ◌++◌, map, length, filter, sym, refl, ap, ◌∙◌, ⊎_elim, add-one, arith}
+use Rattle.std.proofs.Common.{◌≡◌, ℕ, zero, suc, ◌+◌, ◌<◌, ◌≤◌, Bool, true, false, cond, List, [], ◌∷◌, ◌++◌, map, length, filter, sym, ap, ◌∙◌, ⊎_elim, add-one, arith}
 use Rattle.std.specs.List.{range_with_len, flat_map}
 use Rattle.std.proofs.lemmas.List.{map-append, append-nil, append_assoc, length-append, length_push}
 use Rattle.std.proofs.lemmas.List.Elements.{filter-append}
@@ -24,13 +24,13 @@ module _ {X : Type 0} (f : ℕ → X) (p : ℕ → Bool) where
       ap (λ l. map f (filter p l)) (counting_more n) ∙ ap (map f) (filter-append p (range_with_len 0 n) (n ∷ []))
       ∙ map-append f (filter p (range_with_len 0 n)) (cond (p n) (n ∷ []) [])
 
-  pub picked_yes : (n : ℕ) → p n ≡ true → picked f p (n + 1) ≡ picked f p n ++ f n ∷ []
+  picked_yes : (n : ℕ) → p n ≡ true → picked f p (n + 1) ≡ picked f p n ++ f n ∷ []
   picked_yes n e = picked_more n ∙ ap (λ b. picked f p n ++ map f (cond b (n ∷ []) [])) e
 
-  pub picked_no : (n : ℕ) → p n ≡ false → picked f p (n + 1) ≡ picked f p n
+  picked_no : (n : ℕ) → p n ≡ false → picked f p (n + 1) ≡ picked f p n
   picked_no n e = picked_more n ∙ ap (λ b. picked f p n ++ map f (cond b (n ∷ []) [])) e ∙ append-nil _
 
-  pub picked_rises : (m n : ℕ) → m ≤ n → length (picked f p m) ≤ length (picked f p n)
+  picked_rises : (m n : ℕ) → m ≤ n → length (picked f p m) ≤ length (picked f p n)
   picked_rises =
       rises (λ n. length (picked f p n))
       (λ n. omega (arith, ap length (picked_more n), length-append (picked f p n) (map f (cond (p n) (n ∷ []) []))))
@@ -50,25 +50,6 @@ module _ {X : Type 0} (f : ℕ → X) (p : ℕ → Bool) where
   pub picked_grows : (m n : ℕ) → m < n → p m ≡ true → length (picked f p m) < length (picked f p n)
   picked_grows m n h e =
       omega (arith, ap length (picked_yes m e), length_push (picked f p m) (f m), picked_rises (m + 1) n (omega arith))
-
-  -- other items and another test pick the same where they agree below n
-  pub picked_same : (g : ℕ → X) (q : ℕ → Bool) (n : ℕ)
-      → ((k : ℕ) → k < n → f k ≡ g k) → ((k : ℕ) → k < n → p k ≡ q k) → picked f p n ≡ picked g q n
-  picked_same g q n items tests = from 0 n (λ k h. items k (omega arith)) (λ k h. tests k (omega arith))
-    where
-      from : (a m : ℕ) → ((k : ℕ) → k < a + m → f k ≡ g k) → ((k : ℕ) → k < a + m → p k ≡ q k)
-          → map f (filter p (range_with_len a m)) ≡ map g (filter q (range_with_len a m))
-      from a zero fs ps = refl
-      from a (suc m) fs ps =
-          let more = from (a + 1) m (λ k h. fs k (omega arith)) (λ k h. ps k (omega arith)) in
-          ap (λ b. map f (cond b (a ∷ filter p (range_with_len (a + 1) m)) (filter p (range_with_len (a + 1) m)))) (ps a (omega arith))
-          ∙ either (q a) (fs a (omega arith)) more
-        where
-          either : (b : Bool) → f a ≡ g a → map f (filter p (range_with_len (a + 1) m)) ≡ map g (filter q (range_with_len (a + 1) m))
-              → map f (cond b (a ∷ filter p (range_with_len (a + 1) m)) (filter p (range_with_len (a + 1) m)))
-              ≡ map g (cond b (a ∷ filter q (range_with_len (a + 1) m)) (filter q (range_with_len (a + 1) m)))
-          either true e more = λ i. e i ∷ more i
-          either false e more = more
 
 -- the lists of the places below n, one after another
 module _ {X : Type 0} (f : ℕ → List X) where

@@ -1,6 +1,6 @@
 -- The times of a plan's visits, where no two carriers are in conflict.
 use Rattle.std.proofs.Common.{◌≡◌, ℕ, zero, suc, ◌+◌, ◌-◌, ◌<◌, ◌≤◌, min, true, false, ◌⊎◌, List, length, get_or, filter, sym, refl, ap, ◌∙◌, subst, inl, inr, ⊎_elim, add-zero, arith}
-use Rattle.std.specs.List.{range_with_len, ContainsAt as Has, AllByRecursion}
+use Rattle.std.specs.List.{range_with_len, ContainsAt, AllByRecursion}
 use Rattle.std.proofs.ByRecursion.{All-get_or}
 use Rattle.std.proofs.lemmas.Bool.{cases_lt, cases_order, cases_Bool, both_ways, and_parts, and_from, or_parts, or_from, not-true, not-false, not_from_true, eqb-true, eqb-false, eq-eqb, ne_eqb, ltb-true, lt-ltb}
 use Rattle.fault.specs.declared.kinds.Conflict.TheVariants.{Clash, Following}
@@ -88,7 +88,7 @@ module _ (d : Draft) where
       same e = subst (λ k. IsUpTo (visit vs u) (visit vs k)) e (omega arith, λ _. omega arith)
 
   -- and none is missing
-  has_visit : (i t : ℕ) → i < d.carriers → t < length (r i) → visit_at (r i) t ≡ true → Has vs (visit_of i (r i) t)
+  has_visit : (i t : ℕ) → i < d.carriers → t < length (r i) → visit_at (r i) t ≡ true → ContainsAt vs (visit_of i (r i) t)
   has_visit i t manned within e =
       let all = range_with_len 0 (length (r i)) in
       has_joined (carrier_visits d.entries) (visit_of i (r i) t) (range_with_len 0 d.carriers) i (has_counting d.carriers i manned)

@@ -5,11 +5,13 @@ use Rattle.walk.specs.declared.visit.Visit.{Visit}
 use Rattle.walk.specs.declared.crossing.Crossing.{Crossing}
 use Rattle.walk.specs.Edges.{visit}
 
--- Visits u and w are of different carriers in one cell, and u has the earlier step. Two such visits at one step would be a clash.
+-- Two visits are of different carriers in one cell, and the first has the earlier step. Two such visits at one step would be a clash.
+abbrev pub cross : Visit → Visit → Bool
+cross a b = not (a.carrier == b.carrier) && (a.cell == b.cell && nat_lt a.step b.step)
+
+-- visits u and w do
 abbrev pub crosses : List Visit → ℕ → ℕ → Bool
-crosses vs u w =
-    not ((visit vs u).carrier == (visit vs w).carrier)
-    && ((visit vs u).cell == (visit vs w).cell && nat_lt (visit vs u).step (visit vs w).step)
+crosses vs u w = cross (visit vs u) (visit vs w)
 
 -- the crossing of the two, one-way unless it is found to be two-way
 abbrev pub crossing_of : List Visit → ℕ → ℕ → Crossing

@@ -1,6 +1,6 @@
-ghost use Rattle.std.specs.Prelude.{◌≡◌, ◌+◌, ◌<◌, ◌≤◌, ◌++◌, length, MatchResult};
+ghost use Rattle.std.specs.Prelude.{◌≡◌, false, ◌<◌, ◌≤◌, ◌^◌, length, MatchResult};
 ghost use Rattle.fixed.specs.Items.{items};
-ghost use Rattle.visit.specs.Crossings.{crosses, crossing_of, crossings_from, plan_crossings};
+ghost use Rattle.visit.specs.Crossings.{cross, plan_crossings};
 
 use fixed::list::Bounded;
 use fixed::list::methods::Full;
@@ -8,43 +8,25 @@ use record::MAX_ENTRIES;
 use walk::crossing::{Crossing, MAX_CROSSINGS};
 use walk::visit::Visit;
 
-/// Whether two visits cross, `first` being the earlier in the plan.
-fn crosses(visits: &[Visit], first: usize, second: usize) -> bool
-    requires { (first < length visits.now) × (second < length visits.now) }
-    ensures { result ≡ crosses visits.now first second }
+/// Whether two visits cross, the first being the earlier in the plan.
+fn crosses(first: &Visit, second: &Visit) -> bool
+    ensures { result ≡ cross first.now second.now }
 {
-    let (a, b) = (visits[first], visits[second]);
-    a.carrier != b.carrier && a.cell == b.cell && a.step < b.step
+    first.carrier != second.carrier && first.cell == second.cell && first.step < second.step
 }
 
-/// The crossing of two visits, one-way as yet.
-fn crossing_at(visits: &[Visit], first: usize, second: usize) -> Crossing
-    requires { (length visits.now ≤ 512) × (first < length visits.now) × (second < length visits.now) }
-    ensures { result ≡ crossing_of visits.now first second }
+/// The crossing of two visits in a cell, one-way as yet.
+fn crossing_at(cell: u16, first: usize, second: usize) -> Crossing
+    requires first { first < 2 ^ 16 }
+    requires second { second < 2 ^ 16 }
+    ensures { result ≡ record { cell = cell; first = first; second = second; two_way = false } }
 {
     Crossing {
-        cell: visits[first].cell,
+        cell,
         first: first as u16,
         second: second as u16,
         two_way: false,
     }
-}
-
-/// Adds the crossings of a visit with later ones, while there is room.
-fn add_crossings(
-    visits: &[Visit],
-    first: usize,
-    crossings: &mut Bounded<Crossing, MAX_CROSSINGS>,
-) -> Result<(), Full>
-    requires { (length visits.now ≤ 512) × (first < length visits.now) }
-    ensures { MatchResult result (λ _. items crossings.new ≡ items crossings.old ++ crossings_from visits.now first) (λ _. 1024 < length (items crossings.old) + length (crossings_from visits.now first)) }
-{
-    for second in 0..visits.len() {
-        if crosses(visits, first, second) {
-            crossings.push(crossing_at(visits, first, second))?;
-        }
-    }
-    Ok(())
 }
 
 /// The crossings of some visits, each one-way as yet, unless they are too many.
@@ -55,8 +37,12 @@ pub fn crossings_of(
 {
     let visits = visits.as_slice();
     let mut crossings = Bounded::new(Crossing::default());
-    for first in 0..visits.len() {
-        add_crossings(visits, first, &mut crossings)?;
+    for (u, first) in visits.iter().enumerate() {
+        for (w, second) in visits.iter().enumerate() {
+            if crosses(first, second) {
+                crossings.push(crossing_at(first.cell, u, w))?;
+            }
+        }
     }
     Ok(crossings)
 }

@@ -1,4 +1,4 @@
-ghost use Rattle.std.specs.Prelude.{◌≡◌, ◌+◌, ◌≤◌, ◌++◌, length};
+ghost use Rattle.std.specs.Prelude.{◌≡◌, ◌+◌, ◌<◌, ◌≤◌, ◌++◌, length};
 ghost use Rattle.fixed.specs.Items.{items};
 ghost use Rattle.record.specs.Paths.{paths_draft};
 ghost use Rattle.visit.specs.Visits.{carrier_visits, plan_visits};
@@ -9,27 +9,31 @@ use record::entry::Entry;
 use record::paths::Paths;
 use walk::visit::Visit;
 
+/// The visit that an entry is, at a step.
+fn visit_of(entry: &Entry, step: usize) -> Visit
+    requires { step < 512 }
+    ensures { result ≡ record { carrier = entry.now.carrier; cell = entry.now.cell; step = step } }
+{
+    Visit {
+        carrier: entry.carrier,
+        cell: entry.cell,
+        step: step as u16,
+    }
+}
+
 /// Adds a carrier's visits.
 fn add_visits(entries: &[Entry], carrier: u8, visits: &mut Bounded<Visit, MAX_ENTRIES>)
-    requires { (length entries.now ≤ 512) × (length (items visits.old) + length (carrier_visits entries.now carrier) ≤ 512) }
+    requires room { length (items visits.old) + length (carrier_visits entries.now carrier) ≤ 512 }
+    requires few { length entries.now ≤ 512 }
     ensures { items visits.new ≡ items visits.old ++ carrier_visits entries.now carrier }
 {
-    let mut step = 0;
     let mut last = None;
-    for entry in entries {
-        if entry.carrier == carrier {
-            if last != Some(entry.cell) {
-                visits
-                    .push(Visit {
-                        carrier,
-                        cell: entry.cell,
-                        step,
-                    })
-                    .unwrap();
-            }
-            last = Some(entry.cell);
-            step += 1;
+    let own = entries.iter().filter(|entry| entry.carrier == carrier);
+    for (step, entry) in own.enumerate() {
+        if last != Some(entry.cell) {
+            visits.push(visit_of(entry, step)).unwrap();
         }
+        last = Some(entry.cell);
     }
 }
 

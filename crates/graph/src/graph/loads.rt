@@ -8,28 +8,18 @@ ghost use Rattle.graph.specs.Graphs.{held};
 ghost use Rattle.graph.specs.Verdicts.{graph_draft, graph_visits, graph_crossings, GraphJudged, GraphOnly, GraphIs, graph_told, made_told};
 
 use super::Graph;
-use crate::two_way::test_all;
+use crate::net::Net;
 use fault::kinds::GraphFault;
-use fixed::list::Bounded;
 use plan::accepted::Plan;
-use visit::crossings::crossings_of;
-use visit::visits::visits_of;
-use walk::crossing::Crossing;
-use walk::visit::Visit;
 
 /// The graph of a plan, unless it has too many crossings.
 fn build(plan: Plan) -> Result<Graph, GraphFault>
     ensures { MatchResult result (λ g. graph_draft g ≡ plan_draft plan) (λ f. (f ≡ Crossings) × (1024 < length (plan_crossings (plan_visits (plan_draft plan))))) }
 {
-    let visits = visits_of(plan.paths());
-    let Ok(mut crossings) = crossings_of(&visits) else {
-        return Err(GraphFault::Crossings);
-    };
-    test_all(visits.as_slice(), &mut crossings);
+    let net = Net::of(&plan).map_err(|_full| GraphFault::Crossings)?;
     Ok(Graph {
         plan: Some(plan),
-        visits,
-        crossings,
+        net,
     })
 }
 
@@ -58,8 +48,7 @@ impl Graph {
     {
         Graph {
             plan: None,
-            visits: Bounded::new(Visit::default()),
-            crossings: Bounded::new(Crossing::default()),
+            net: Net::new(),
         }
     }
 

@@ -5,11 +5,12 @@ ghost use Rattle.graph.specs.Figures.{outline_of, CrossingsListed};
 
 use super::Graph;
 use fault::kinds::RoomFault;
+use record::header::Header;
 use walk::crossing::Crossing;
 use walk::visit::Visit;
 
 /// The numbers of a plan's record; of no plan each is 0.
-#[derive(Clone, Copy, PartialEq, Eq, Debug)]
+#[derive(Clone, Copy, PartialEq, Eq, Debug, Default)]
 pub struct Outline {
     pub width: u8,
     pub height: u8,
@@ -17,42 +18,42 @@ pub struct Outline {
     pub entries: u16,
 }
 
+impl From<Header> for Outline {
+    ghost from_gives = { λ h outline. outline ≡ record { width = h.width; height = h.height; carriers = h.carriers; entries = h.entries } };
+
+    fn from(header: Header) -> Outline {
+        Outline {
+            width: header.width,
+            height: header.height,
+            carriers: header.carriers,
+            entries: header.entries,
+        }
+    }
+}
+
 impl Graph {
     /// The numbers of the plan's record.
     pub fn outline(&self) -> Outline
         ensures { result ≡ outline_of (graph_draft self.now) }
     {
-        match &self.plan {
-            None => Outline {
-                width: 0,
-                height: 0,
-                carriers: 0,
-                entries: 0,
-            },
-            Some(plan) => {
-                let header = plan.paths().header();
-                Outline {
-                    width: header.width,
-                    height: header.height,
-                    carriers: header.carriers,
-                    entries: header.entries,
-                }
-            }
-        }
+        self.plan
+            .as_ref()
+            .map(|plan| Outline::from(plan.paths().header()))
+            .unwrap_or_default()
     }
 
     /// The visits, by carrier and then by step.
     pub fn visits(&self) -> &[Visit]
         ensures { result.now ≡ graph_visits self.now }
     {
-        self.visits.as_slice()
+        self.net.visits()
     }
 
     /// The crossings, by first visit and then by second.
     pub fn crossings(&self) -> &[Crossing]
         ensures { result.now ≡ graph_crossings self.now }
     {
-        self.crossings.as_slice()
+        self.net.crossings()
     }
 
     /// The plan's moves: its visits less its carriers.
@@ -68,10 +69,9 @@ impl Graph {
     pub fn visit_count(&self, carrier: u8) -> u16
         ensures { result ≡ visits (graph_draft self.now) carrier }
     {
-        match &self.plan {
-            None => 0,
-            Some(plan) => plan.paths().visits(carrier),
-        }
+        self.plan
+            .as_ref()
+            .map_or(0, |plan| plan.paths().visits(carrier))
     }
 
     /// Writes the crossings to the front of a list and answers how many they are. A list that is too
@@ -79,14 +79,13 @@ impl Graph {
     pub fn list_crossings(&self, list: &mut [Crossing]) -> Result<usize, RoomFault>
         ensures { CrossingsListed (graph_crossings self.now) list.old list.new result }
     {
-        let crossings = self.crossings.as_slice();
+        let crossings = self.crossings();
         let count = crossings.len();
-        if list.len() < count {
-            return Err(RoomFault {
-                needed: count as u16,
-            });
-        }
-        list[0..count].copy_from_slice(crossings);
+        let room = RoomFault {
+            needed: count as u16,
+        };
+        let (front, _) = list.split_at_mut_checked(count).ok_or(room)?;
+        front.copy_from_slice(crossings);
         Ok(count)
     }
 }

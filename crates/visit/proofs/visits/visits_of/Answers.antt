@@ -8,14 +8,14 @@ use Rattle.visit.specs.Visits.{carrier_visits}
 use Rattle.visit.proofs.Few.{visits_fit}
 use Rattle.visit.proofs.visits.visits_of.Goals as goal
 
-pub add_visits-requires : goal.add_visits-requires
-add_visits-requires c =
+pub add_visits-requires-clause-room : goal.add_visits-requires-clause-room
+add_visits-requires-clause-room c =
     let paths = c.args.paths.now in
     let i = c.loop-carrier.carrier in
     let visits = items c.loop-carrier.visits in
-    let Fit : List Entry → Type 0 = λ es. (length es ≤ 512) × (length visits + length (carrier_visits es i) ≤ 512) in
+    let Fit : List Entry → Type 0 = λ es. length visits + length (carrier_visits es i) ≤ 512 in
     subst Fit (sym c.entries.ensures)
-    (draft_few paths, omega (arith, draft_few paths, visits_fit (paths_draft paths).entries i, ap length c.loop-carrier.invariant))
+    (omega (arith, draft_few paths, visits_fit (paths_draft paths).entries i, ap length c.loop-carrier.invariant))
 
 pub loop-carrier-preserved : goal.loop-carrier-preserved
 loop-carrier-preserved c =

@@ -1,0 +1,19 @@
+ghost use Rattle.std.specs.Prelude.{length};
+ghost use Rattle.fixed.specs.Items.{items};
+ghost use Rattle.graph.specs.Between.{Between};
+
+use fixed::list::Bounded;
+use record::MAX_ENTRIES;
+use walk::crossing::{Crossing, MAX_CROSSINGS};
+use walk::visit::Visit;
+
+mod makes;
+mod reads;
+
+/// Visits, and the crossings between them.
+#[derive(Clone, Copy)]
+pub(crate) struct Net {
+    visits: Bounded<Visit, MAX_ENTRIES>,
+    crossings: Bounded<Crossing, MAX_CROSSINGS>,
+    ghost between: { Between (length (items visits)) (items crossings) },
+}
