@@ -122,6 +122,7 @@ impl Net {
         requires { visit < length (net_visits self.now) }
         ensures { result ≡ sum_at K.ops (net_visits self.now) (net_crossings self.now) (ways_in ways.now) (starts_in K.ops.zero start.now) visit }
     {
+        // Fixed memory has room for the most visits; the sum goes over those that there are.
         let count = self.visits().len();
         let (mut sums, mut spare) = (*start, *start);
         self.sum(
