@@ -1,13 +1,11 @@
 -- The visits of a path, one entry after another.
-use Rattle.std.proofs.Common.{◌≡◌, ℕ, zero, suc, ◌+◌, ◌-◌, ◌<◌, ◌≤◌, Bool, true, false, cond, not, ◌||◌, eqb, List, [], ◌∷◌, ◌++◌, length, get_or, Some, None, sum_by, count_by, Option, sym, refl, ap, ◌∙◌, arith, MatchOption, Decides}
+use Rattle.std.proofs.Common.{◌≡◌, ℕ, zero, suc, ◌+◌, ◌-◌, ◌<◌, ◌≤◌, Bool, true, false, cond, not, ◌||◌, eqb, List, [], ◌∷◌, ◌++◌, length, get_or, Some, None, sum_by, count_by, Option, sym, refl, ap, ◌∙◌, arith, MatchOption}
 use mir.Val.{bool_byte}
 use Rattle.std.specs.List.{range_with_len}
-use Rattle.std.specs.Option.{option_eq}
 use Rattle.std.proofs.lemmas.List.{length_push, get_or_push, get_or_append_left, map-id}
-use Rattle.std.proofs.lemmas.List.FromFn.{length-range_with_len, sum_by-map-range_with_len_more}
-use Rattle.std.proofs.lemmas.List.Sums.{sum_by-cons, count_by-le-length}
+use Rattle.std.proofs.lemmas.List.FromFn.{sum_by-map-range_with_len_more}
+use Rattle.std.proofs.lemmas.List.Sums.{sum_by-cons}
 use Rattle.std.proofs.lemmas.Bool.{ne_eqb}
-use Rattle.std.proofs.lemmas.Bool.Decides.{same_from_decides, Decides-eqb}
 use Rattle.record.specs.Steps.{visit_at, visit_count}
 
 abbrev one : Bool → ℕ
@@ -41,26 +39,9 @@ last_more r c =
     let e : length (r ++ c ∷ []) - 1 ≡ length r = simp length_push (omega arith) in
     (simp length_push (omega arith), ap (λ k. get_or (r ++ c ∷ []) k 0) e ∙ get_or_push r c 0 (length r) refl)
 
-pub visits_le : (r : List ℕ) → visit_count r ≤ length r
-visits_le r = omega (arith, count_by-le-length (visit_at r) (range_with_len 0 (length r)), length-range_with_len 0 (length r))
-
 -- whether the carrier enters the cell c anew
 abbrev pub Enters : Option ℕ → ℕ → Bool → Type 0
 Enters o c b = MatchOption o (b ≡ true) (λ before. b ≡ not (eqb before c))
-
--- a test of whether the last cell is the next one decides whether that is entered
-pub differs : (o : Option ℕ) (c : ℕ) (x b : Bool) → MatchOption o (x ≡ false) (λ before. Decides x (before ≡ c)) → b ≡ not x → Enters o c b
-differs None c x b h e = e ∙ ap not h
-differs (Some before) c x b h e = e ∙ ap not (same_from_decides x (eqb before c) h (Decides-eqb before c))
-
--- `option_eq` is such a test
-compares : (o : Option ℕ) (c : ℕ) → MatchOption o (option_eq eqb o (Some c) ≡ false) (λ before. Decides (option_eq eqb o (Some c)) (before ≡ c))
-compares None c = refl
-compares (Some before) c = Decides-eqb before c
-
--- what `!=` answers of the last cell and the next
-pub enters_anew : (o : Option ℕ) (c : ℕ) (b : Bool) → b ≡ not (option_eq eqb o (Some c)) → Enters o c b
-enters_anew o c b e = differs o c (option_eq eqb o (Some c)) b (compares o c) e
 
 module _ (r : List ℕ) (c : ℕ) where
   below_same : (k : ℕ) → 0 ≤ k → k < 0 + length r → visit_at (r ++ c ∷ []) k ≡ visit_at r k
