@@ -1,7 +1,6 @@
 pub mod Rounds
 pub mod Linked
 pub mod Along
-pub mod Filled
 pub mod Alike
 pub mod Reached
 pub mod Testing

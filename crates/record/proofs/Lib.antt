@@ -1,4 +1,3 @@
-pub mod Arrays
 pub mod Layers
 pub mod Loads
 pub mod Together
