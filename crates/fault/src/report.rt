@@ -20,6 +20,7 @@ pub enum Layer {
 /// not use are 0.
 #[derive(Clone, Copy, PartialEq, Eq, Debug)]
 pub struct Report {
+    // A number and no enum: it is what text and C are told.
     pub number: u8,
     pub layer: Layer,
     pub places: [u16; 3],
@@ -51,6 +52,7 @@ impl Report {
     }
 }
 
+/// What others are told of a plan's fault.
 impl From<PlanFault> for Report {
     ghost from_gives = { λ f r. r ≡ report_of f };
 
@@ -85,7 +87,7 @@ impl From<PlanFault> for Report {
     }
 }
 
-/// Of a plan's fault what is told of that.
+/// What others are told of a graph's fault: of its plan's what they are told of that.
 impl From<GraphFault> for Report {
     ghost from_gives = { λ f r. r ≡ graph_report f };
 
@@ -97,6 +99,7 @@ impl From<GraphFault> for Report {
     }
 }
 
+/// What others are told of a list that is too short.
 impl From<RoomFault> for Report {
     ghost from_gives = { λ f r. r ≡ room_report f };
 
@@ -105,6 +108,7 @@ impl From<RoomFault> for Report {
     }
 }
 
+/// What others are told of a drive's fault.
 impl From<DriveFault> for Report {
     ghost from_gives = { λ f r. r ≡ drive_report f };
 

@@ -5,8 +5,8 @@ use std::alloc::AllocError;
 pub mod methods;
 
 /// A list of at most `N` items, in fixed memory.
-// No ArrayVec of the kit, and no model: the list is `Copy`, as a graph is, and callers read what its
-// ghost fields say.
+// Not the kit's ArrayVec, which is not `Copy`, as a graph is. No model: it would hide what the ghost
+// fields say, and to be `Copy` it would have to show the slots that hold no item too.
 pub struct Bounded<T, const N: usize> {
     slots: [T; N],
     count: usize,
@@ -16,7 +16,7 @@ pub struct Bounded<T, const N: usize> {
 
 impl<T: Copy, const N: usize> Copy for Bounded<T, N> {}
 
-// No derive reaches a struct with a ghost field.
+// `Clone` cannot be derived for a generic struct with ghost fields.
 impl<T: Copy, const N: usize> Clone for Bounded<T, N> {
     ghost is_clone = { λ list copy. copy ≡ list };
 

@@ -12,6 +12,8 @@ pub mod loads;
 pub mod reads;
 
 /// The temporal plan graph of an accepted plan, or of no plan and no carriers.
+// Clauses name its plan, visits and crossings one by one, since the definitions speak of any visits
+// and crossings: that a plan has no other graph could not be said else. No model, as of a net.
 #[derive(Clone, Copy)]
 pub struct Graph {
     plan: Option<Plan>,

@@ -79,6 +79,7 @@ impl Net {
     }
 
     /// The links of the net, where `ways` says which edges of each crossing are taken.
+    // A list as long as crossings can be, and no closure: a caller of `Graph::sum` hands it over.
     pub(crate) fn links(&self, ways: &[Ways; MAX_CROSSINGS]) -> Bounded<Link, MAX_LINKS>
         ensures { items result ≡ links (net_visits self.now) (net_crossings self.now) (ways_in ways.now) }
     {

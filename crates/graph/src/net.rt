@@ -11,6 +11,8 @@ mod makes;
 mod reads;
 
 /// Visits, and the crossings between them.
+// A visit's number is a plain number, and a call asks that there is such a visit: a type for it
+// would have to borrow the net. No model: to be `Copy` it would have to show the empty slots too.
 #[derive(Clone, Copy)]
 pub(crate) struct Net {
     visits: Bounded<Visit, MAX_ENTRIES>,

@@ -15,7 +15,8 @@ use walk::kinds::Kind;
 use walk::visit::Visit;
 
 /// What a sum goes over: the visits, the links between them, and what starts at each visit.
-// The values of a round are no part of it: they are lent to each call, which asks for their lengths.
+// The values of a round are no part of it: as fields they would be two `&mut`s that each method lends
+// on, and no plainer than parameters whose lengths a call asks for.
 #[derive(Drop)]
 struct Sum<'a, K> {
     visits: &'a [Visit],

@@ -28,7 +28,8 @@ impl Moment {
         let earlier = &self.earlier;
         let later = &self.later;
         let (first, second) = (usize::from(first), usize::from(second));
-        // A kind is a value and no closure: the fault carries it, and the contracts speak of it.
+        // No closure in place of the kind: the fault carries the kind and the contracts speak of it,
+        // so a closure would only be handed on beside it.
         match kind {
             Conflict::Clash => first < second && later[first] == later[second],
             Conflict::Following => {

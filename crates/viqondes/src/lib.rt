@@ -8,6 +8,7 @@ use fault::kinds::GraphFault;
 use fault::report::Report;
 use graph::graph::Graph;
 
+// A number and no enum: it is what C is told.
 fn number(answer: Result<(), GraphFault>) -> u8
     ensures { result ≡ answer_number answer }
 {

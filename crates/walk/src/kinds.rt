@@ -16,6 +16,7 @@ pub trait Kind: Copy + Eq {
     fn zero() -> Self
         ensures { result ≡ ops.zero };
 
+    /// What two values are together.
     fn join(self, other: Self) -> Self
         ensures { result ≡ ops.join self other };
 
@@ -41,19 +42,19 @@ pub trait Starting: Kind {
 }
 
 /// Whether a visit is reached.
-#[derive(Clone, Copy, PartialEq, Eq, Debug)]
+#[derive(Clone, Copy, PartialEq, Eq, Debug, Default)]
 pub struct Mark {
     pub set: bool,
 }
 
 /// The earliest step at which a visit can come, if it is reached.
-#[derive(Clone, Copy, PartialEq, Eq, PartialOrd, Ord, Debug)]
+#[derive(Clone, Copy, PartialEq, Eq, PartialOrd, Ord, Debug, Default)]
 pub struct Earliest {
     pub step: Option<u16>,
 }
 
 /// The carriers that have a part in reaching a visit, a bit for each.
-#[derive(Clone, Copy, PartialEq, Eq, Debug, Default)]
+#[derive(Clone, Copy, Default, PartialEq, Eq, Debug)]
 pub struct CarrierSet {
     pub bits: u16,
 }

@@ -10,6 +10,7 @@ use walk::crossing::Crossing;
 use walk::visit::Visit;
 
 /// The numbers of a plan's record; of no plan each is 0.
+// No Option of a header: callers are promised numbers, and ask nothing.
 #[derive(Clone, Copy, PartialEq, Eq, Debug, Default)]
 pub struct Outline {
     pub width: u8,
@@ -18,6 +19,7 @@ pub struct Outline {
     pub entries: u16,
 }
 
+/// The numbers that a header has.
 impl From<Header> for Outline {
     ghost from_gives = { λ h outline. outline ≡ record { width = h.width; height = h.height; carriers = h.carriers; entries = h.entries } };
 

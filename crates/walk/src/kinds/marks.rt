@@ -14,7 +14,7 @@ impl Kind for Mark {
     ghost exact = { Prim.search rules };
 
     fn zero() -> Mark {
-        Mark { set: false }
+        Mark::default()
     }
 
     fn join(self, other: Mark) -> Mark {

@@ -14,7 +14,7 @@ impl Kind for Earliest {
     ghost exact = { Prim.search rules };
 
     fn zero() -> Earliest {
-        Earliest { step: None }
+        Earliest::default()
     }
 
     fn join(self, other: Earliest) -> Earliest {
