@@ -3,7 +3,6 @@ ghost use Rattle.layers.specs.Holding.{fresh};
 ghost use Rattle.layers.specs.HoldingBack.{hold_back, back_places, back_sent, back_reports};
 
 use crate::hold_ups::HoldUps;
-use drive::checks::destination;
 use drive::interface::Drive;
 use drive::place::{Answer, MAX_CARRIERS, Place};
 use fault::kinds::DriveFault;
@@ -58,7 +57,7 @@ impl<D: Drive> Drive for HoldBack<D> {
     }
 
     fn report(&mut self, carrier: u8) -> Result<(), DriveFault> {
-        destination(self.inner.place(carrier).ok(), carrier)?;
+        self.inner.place(carrier)?.destination(carrier)?;
         if self.hold_ups.hold(carrier) {
             return Answer::NotYet.told(carrier);
         }
