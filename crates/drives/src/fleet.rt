@@ -35,7 +35,7 @@ impl Fleet {
     {
         let mut places = Bounded::new(Place::Standing(0));
         for &cell in cells.iter().take(MAX_CARRIERS) {
-            let _ = places.push(Place::Standing(cell));
+            places.push(Place::Standing(cell)).unwrap();
         }
         Fleet { places }
     }
