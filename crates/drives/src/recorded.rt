@@ -46,11 +46,7 @@ impl<'a> Recorded<'a> {
             return Answer::There;
         };
         self.bytes = rest;
-        if byte == 0 {
-            Answer::NotYet
-        } else {
-            Answer::There
-        }
+        byte.into()
     }
 }
 
