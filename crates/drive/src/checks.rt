@@ -4,7 +4,8 @@ ghost use Rattle.drive.specs.Refusals.{departure_from, destination_of};
 use crate::place::Place;
 use fault::kinds::DriveFault;
 
-/// How many cells the largest floor has.
+/// How many cells the largest floor has, 64 by 64.
+// The side stands in the crate `record` too: a drive knows no plans.
 pub const MAX_CELLS: u16 = 4096;
 
 impl Place {

@@ -16,7 +16,8 @@ pub struct HoldBack<D> {
 }
 
 impl<D: Drive> HoldBack<D> {
-    /// A movement that is under way is held up as often as any other.
+    /// The layer over the drive, with how often each carrier's movements are held up. A movement
+    /// that is under way is held up as often as any other.
     pub fn over(inner: D, hold_ups: [u8; MAX_CARRIERS]) -> HoldBack<D>
         ensures { result ≡ hold_back inner (fresh hold_ups) }
     {
