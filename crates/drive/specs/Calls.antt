@@ -1,5 +1,5 @@
 -- What a drive's calls answer and change.
-use Rattle.std.specs.Prelude.{◌≡◌, ℕ, List, Some, Ok, Err, Result, slice_set}
+use Rattle.std.specs.Prelude.{◌≡◌, ℕ, if◌then◌else◌, List, Some, Ok, Err, Result, slice_set, ◌==◌}
 use Rattle.std.specs.List.{slice_get}
 use Rattle.fault.specs.declared.kinds.DriveFault.{DriveFault}
 use Rattle.fault.specs.declared.kinds.DriveFault.TheVariants.{NotThere}
@@ -8,6 +8,10 @@ use Rattle.drive.specs.declared.place.Answer.TheVariants.{There, NotYet}
 use Rattle.drive.specs.declared.place.Place.{Place}
 use Rattle.drive.specs.declared.place.Place.TheVariants.{Standing, Going}
 use Rattle.drive.specs.Refusals.{departure, destination}
+
+-- a byte as an answer
+abbrev pub answer_of : ℕ → Answer
+answer_of b = if b == 0 then NotYet else There
 
 -- an answer as the result of a report on carrier c
 abbrev pub told : ℕ → Answer → Result Unit DriveFault

@@ -10,13 +10,21 @@ abbrev pub leaves : Place → ℕ → Result ℕ DriveFault
 leaves (Going a b) c = Err (AlreadyGoing c)
 leaves (Standing a) c = Ok a
 
--- the cell that carrier c, which is in this place if it exists, leaves when it is sent to cell t; or why it is not sent
+-- the cell that carrier c, which is in this place, leaves when it is sent to cell t; or why it is not sent
+abbrev pub departure_from : Place → ℕ → ℕ → Result ℕ DriveFault
+departure_from p c t = if nat_lt t 4096 then leaves p c else Err (NoCell t)
+
+-- the same of a carrier that may not exist
 abbrev pub departure : Option Place → ℕ → ℕ → Result ℕ DriveFault
 departure None c t = Err (NoCarrier c)
-departure (Some p) c t = if nat_lt t 4096 then leaves p c else Err (NoCell t)
+departure (Some p) c t = departure_from p c t
 
--- the cell to which carrier c goes; or why there is no report on it
+-- the cell to which carrier c, which is in this place, goes; or why there is no report on it
+abbrev pub destination_of : Place → ℕ → Result ℕ DriveFault
+destination_of (Standing a) c = Err (NotGoing c)
+destination_of (Going a b) c = Ok b
+
+-- the same of a carrier that may not exist
 abbrev pub destination : Option Place → ℕ → Result ℕ DriveFault
 destination None c = Err (NoCarrier c)
-destination (Some (Standing a)) c = Err (NotGoing c)
-destination (Some (Going a b)) c = Ok b
+destination (Some p) c = destination_of p c

@@ -1,10 +1,11 @@
 ghost use Rattle.std.specs.Prelude.{◌≡◌, ◌↔◌, IsTrue};
 ghost use Rattle.drive.specs.Places.{Holds};
-ghost use Rattle.drive.specs.Calls.{told};
+ghost use Rattle.drive.specs.Calls.{answer_of, told};
 
 use fault::kinds::DriveFault;
 
 /// The most carriers that a drive has.
+// The number stands in the crate `record` too: a drive knows no plans.
 pub const MAX_CARRIERS: usize = 16;
 
 /// Where a carrier is: the cell in which it stands, or the two cells between which it goes.
@@ -29,6 +30,18 @@ impl Place {
         match self {
             Place::Standing(at) => cell == at,
             Place::Going(from, to) => cell == from || cell == to,
+        }
+    }
+}
+
+/// A byte as an answer: 0 is "not yet", and any other is "there".
+impl From<u8> for Answer {
+    ghost from_gives = { λ byte answer. answer ≡ answer_of byte };
+
+    fn from(byte: u8) -> Answer {
+        match byte {
+            0 => Answer::NotYet,
+            _ => Answer::There,
         }
     }
 }

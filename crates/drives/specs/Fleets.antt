@@ -35,7 +35,7 @@ come ps c = answered ps c There
 -- a report on carrier c that is given the answer a, if it is not refused
 abbrev pub Answered : List Place → ℕ → Answer → Result Unit DriveFault → List Place → Type 0
 Answered ps c a r qs =
-    RefusedOr (destination (slice_get ps c) c) (λ b x y. (x ≡ told c a) × (y ≡ answered ps c a) × (y ≡ settled ps c b a)) ps r qs
+    RefusedOr (destination (slice_get ps c) c) (λ b x y. (x ≡ told c a) × (y ≡ answered ps c a)) ps r qs
 
 -- the rule: always "there"
 abbrev pub fleet_reports : List Place → ℕ → Answer → List Place → Type 0

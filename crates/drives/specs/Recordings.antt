@@ -1,8 +1,9 @@
 -- The recorded drive.
-use Rattle.std.specs.Prelude.{◌≡◌, ℕ, if◌then◌else◌, List, [], ◌∷◌, drop, ◌==◌}
+use Rattle.std.specs.Prelude.{◌≡◌, ℕ, List, [], ◌∷◌, drop}
 use Rattle.drive.specs.declared.place.Answer.{Answer}
-use Rattle.drive.specs.declared.place.Answer.TheVariants.{There, NotYet}
+use Rattle.drive.specs.declared.place.Answer.TheVariants.{There}
 use Rattle.drive.specs.declared.place.Place.{Place}
+use Rattle.drive.specs.Calls.{answer_of}
 use Rattle.drives.specs.Fleets.{gone, answered}
 
 -- where the carriers are, and the bytes that are left
@@ -10,11 +11,7 @@ pub record Recording : Type 0 where
   pub places : List Place
   pub bytes : List ℕ
 
--- what a byte stands for
-abbrev pub answer_of : ℕ → Answer
-answer_of b = if b == 0 then NotYet else There
-
--- what the next byte stands for, or the list's end
+-- the next byte as an answer; the list's end is "there"
 abbrev pub next_answer : List ℕ → Answer
 next_answer [] = There
 next_answer (b ∷ bs) = answer_of b
@@ -29,6 +26,6 @@ recorded_sent d c t = record d { places = gone d.places c t }
 abbrev pub recorded_answered : Recording → ℕ → Answer → Recording
 recorded_answered d c a = record { places = answered d.places c a; bytes = drop 1 d.bytes }
 
--- the rule: the answer is that for which the next byte stands
+-- the rule: the answer is the next byte's
 abbrev pub recorded_reports : Recording → ℕ → Answer → Recording → Type 0
 recorded_reports d c a e = (a ≡ next_answer d.bytes) × (e ≡ recorded_answered d c a)

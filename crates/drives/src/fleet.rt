@@ -4,7 +4,6 @@ ghost use Rattle.drive.specs.declared.place.Place.TheVariants.{Standing};
 ghost use Rattle.drive.specs.Refusals.{destination};
 ghost use Rattle.drives.specs.Fleets.{gone, fleet_reports, Answered};
 
-use drive::checks::{departure, destination};
 use drive::interface::Drive;
 use drive::place::{Answer, MAX_CARRIERS, Place};
 use fault::kinds::DriveFault;
@@ -36,22 +35,16 @@ impl Fleet {
     {
         let mut places = Bounded::new(Place::Standing(0));
         for &cell in cells.iter().take(MAX_CARRIERS) {
-            let _ = places.push(Place::Standing(cell));
+            places.push(Place::Standing(cell)).unwrap();
         }
         Fleet { places }
-    }
-
-    fn get(&self, carrier: u8) -> Option<Place>
-        ensures { result ≡ slice_get self.now carrier }
-    {
-        self.places.as_slice().get(usize::from(carrier)).copied()
     }
 
     /// The cell to which a carrier goes.
     pub fn destination(&self, carrier: u8) -> Result<u16, DriveFault>
         ensures { result ≡ destination (slice_get self.now carrier) carrier }
     {
-        destination(self.get(carrier), carrier)
+        self.place(carrier)?.destination(carrier)
     }
 
     /// A report on a carrier with a given answer: if the carrier is there, it stands there now.
@@ -85,11 +78,15 @@ impl Drive for Fleet {
     }
 
     fn place(&self, carrier: u8) -> Result<Place, DriveFault> {
-        self.get(carrier).ok_or(DriveFault::NoCarrier(carrier))
+        self.places
+            .as_slice()
+            .get(usize::from(carrier))
+            .copied()
+            .ok_or(DriveFault::NoCarrier(carrier))
     }
 
     fn send(&mut self, carrier: u8, to: u16) -> Result<(), DriveFault> {
-        let from = departure(self.get(carrier), carrier, to)?;
+        let from = self.place(carrier)?.departure(carrier, to)?;
         self.put(carrier, Place::Going(from, to));
         Ok(())
     }

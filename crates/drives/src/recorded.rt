@@ -17,6 +17,7 @@ pub struct Recorded<'a> {
     bytes: &'a [u8],
 }
 
+// Named `'a` as in the struct: a model's impl must repeat its parameters.
 impl<'a> Model for Recorded<'a> {
     ghost use Rattle.drives.specs.Recordings.{Recording};
 
@@ -42,19 +43,13 @@ impl<'a> Recorded<'a> {
         ensures answer { result ≡ next_answer self.old.bytes }
         ensures after { self.new ≡ record self.old { bytes = drop 1 self.old.bytes } }
     {
-        let Some((&byte, rest)) = self.bytes.split_first() else {
-            return Answer::There;
-        };
-        self.bytes = rest;
-        if byte == 0 {
-            Answer::NotYet
-        } else {
-            Answer::There
-        }
+        self.bytes
+            .split_off_first()
+            .map_or(Answer::There, |&byte| byte.into())
     }
 }
 
-impl<'a> Drive for Recorded<'a> {
+impl Drive for Recorded<'_> {
     ghost meaning = { recorded_places };
 
     ghost sent = { recorded_sent };

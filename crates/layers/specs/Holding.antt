@@ -17,7 +17,7 @@ once_less u = record { number = u.number; left = u.left - 1 }
 abbrev pub fresh : List ℕ → HoldUps
 fresh ns = record { each = map whole ns }
 
--- whether the movement of carrier c is held up still; there is no carrier past the 16 numbers
+-- whether the movement of carrier c is held up still; a carrier without a number is not held up
 abbrev pub held_up : HoldUps → ℕ → Bool
 held_up h c = option_map_or (λ u. nat_lt 0 u.left) (slice_get h.each c) false
 

@@ -3,7 +3,6 @@ ghost use Rattle.layers.specs.Holding.{fresh};
 ghost use Rattle.layers.specs.HoldingBack.{hold_back, back_places, back_sent, back_reports};
 
 use crate::hold_ups::HoldUps;
-use drive::checks::destination;
 use drive::interface::Drive;
 use drive::place::{Answer, MAX_CARRIERS, Place};
 use fault::kinds::DriveFault;
@@ -17,7 +16,8 @@ pub struct HoldBack<D> {
 }
 
 impl<D: Drive> HoldBack<D> {
-    /// A movement that is under way is held up as often as any other.
+    /// The layer over the drive, with how often each carrier's movements are held up. A movement
+    /// that is under way is held up as often as any other.
     pub fn over(inner: D, hold_ups: [u8; MAX_CARRIERS]) -> HoldBack<D>
         ensures { result ≡ hold_back inner (fresh hold_ups) }
     {
@@ -58,7 +58,7 @@ impl<D: Drive> Drive for HoldBack<D> {
     }
 
     fn report(&mut self, carrier: u8) -> Result<(), DriveFault> {
-        destination(self.inner.place(carrier).ok(), carrier)?;
+        self.inner.place(carrier)?.destination(carrier)?;
         if self.hold_ups.hold(carrier) {
             return Answer::NotYet.told(carrier);
         }

@@ -49,7 +49,7 @@ pub struct HoldUps {
 }
 
 impl HoldUps {
-    /// A movement that is under way is held up as often as any other.
+    /// Each carrier's number of hold-ups; none of them has happened yet.
     pub fn new(numbers: [u8; MAX_CARRIERS]) -> HoldUps
         ensures { result ≡ fresh numbers }
     {

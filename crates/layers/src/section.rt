@@ -16,6 +16,7 @@ pub struct Section<D> {
 }
 
 impl<D: Drive> Section<D> {
+    /// A section of the drive: its carriers from the number `first` on, at most `most` of them.
     pub fn over(inner: D, first: u8, most: u8) -> Section<D>
         ensures { result ≡ section inner first most }
     {
