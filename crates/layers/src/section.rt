@@ -24,6 +24,7 @@ impl<D: Drive> Section<D> {
     }
 
     /// Gives the drive below back.
+    // As of `HoldBack`: a trait of layers would be longer than the line that it saves.
     pub fn into_inner(self) -> D
         ensures { result ≡ self.inner }
     {
