@@ -1,11 +1,10 @@
 -- A carrier's entries as visits.
-use Rattle.std.proofs.Common.{◌≡◌, ℕ, ◌<◌, Bool, true, eqb, List, get_or, map, length, filter, sym, ap, ◌∙◌, subst, arith}
+use Rattle.std.proofs.Common.{◌≡◌, ℕ, ◌<◌, Bool, true, eqb, List, get_or, map, length, filter, sym, ap, ◌∙◌, subst}
 use Rattle.std.proofs.ByRecursion.{All-get_or, kept_by_passes}
 use Rattle.std.proofs.lemmas.Bool.{eqb-true}
 use Rattle.std.proofs.lemmas.List.{length-map, get_or-map}
 use Rattle.record.specs.declared.entry.Entry.{Entry}
 use Rattle.record.specs.Steps.{path, visit_at}
-use Rattle.walk.specs.declared.visit.Visit.{Visit}
 use Rattle.visit.specs.Visits.{visit_of}
 
 -- the entries of carrier i, as record hands them out
