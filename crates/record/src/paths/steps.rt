@@ -33,7 +33,7 @@ impl Paths {
         self.entries.as_slice()
     }
 
-    /// The entries of a carrier, in its order of steps; none for a carrier that the plan lacks.
+    /// The entries of a carrier, by step; none for a carrier that the plan lacks.
     pub fn path(&self, carrier: u8) -> &[Entry]
         ensures own { result.now ≡ filter (λ e. e.carrier == carrier) (paths_draft self.now).entries }
         ensures few { length result.now ≤ 512 }
