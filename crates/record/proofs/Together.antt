@@ -1,5 +1,5 @@
 -- A carrier's entries lie together.
-use Rattle.std.proofs.Common.{◌≡◌, ℕ, zero, suc, ◌+◌, ◌-◌, ◌<◌, ◌≤◌, Bool, true, false, ◌==◌, nat_lt, List, [], ◌∷◌, ◌++◌, length, slice_index_or, filter, take, drop, sym, refl, ap, ◌∙◌, add-zero, inl, inr, ⊎_elim, arith}
+use Rattle.std.proofs.Common.{◌≡◌, ℕ, zero, suc, ◌+◌, ◌-◌, ◌<◌, ◌≤◌, Bool, true, false, ◌==◌, nat_lt, List, [], ◌∷◌, ◌++◌, length, slice_index_or, filter, take, drop, sym, refl, ap, ◌∙◌, add-zero, inl, ⊎_elim, arith}
 use Rattle.std.proofs.lemmas.List.{append-nil, get_or-take, get_or-drop, get_or_default, length-take-le, length-drop, take-append-drop}
 use Rattle.std.proofs.lemmas.List.Elements.{filter-append}
 use Rattle.std.proofs.lemmas.Bool.{cases_lt, ltb-true, ltb-false, lt-ltb, eqb-true, eq-eqb, ne_eqb}
@@ -51,14 +51,6 @@ module _ (d : Draft) (sound : Sound d) where
       let there : i + (j - i) ≡ j = omega arith in
       let up : (entry d.entries i).carrier ≤ (entry d.entries j).carrier = rw there at (from_on i (j - i) (omega arith)) in
       rw (get_or_default d.entries i e no_entry (omega arith), get_or_default d.entries j e no_entry within) up
-
-  carrier_known : (k : ℕ) → k < length d.entries → (entry d.entries k).carrier < d.carriers
-  carrier_known k h = ⊎_elim (λ l. l) (λ l. absurd (sound Carrier k (inl (h, inr l)))) (cases_lt (entry d.entries k).carrier d.carriers)
-
-  -- no entry is of a carrier that the plan lacks
-  pub lacking : (c : ℕ) → d.carriers ≤ c → [] ≡ filter (λ e. e.carrier == c) d.entries
-  lacking c past =
-      sym (filter_none (λ (e : Entry). e.carrier == c) d.entries (λ k e l u. rw (get_or_default d.entries k e no_entry u) (ne_eqb _ _ (λ same. omega (arith, carrier_known k u)))))
 
 module _ (es : List Entry) (c : ℕ) (rises : IsNonDecreasingBy (λ e. e.carrier) es) where
   below : Entry → Bool

@@ -1,6 +1,7 @@
-ghost use Rattle.std.specs.Prelude.{◌≡◌, ◌+◌, ◌<◌, ◌≤◌, ◌++◌, length};
+ghost use Rattle.std.specs.Prelude.{◌≡◌, ◌+◌, ◌<◌, ◌≤◌, ◌++◌, map, length};
 ghost use Rattle.fixed.specs.Items.{items};
 ghost use Rattle.record.specs.Paths.{paths_draft};
+ghost use Rattle.record.specs.Steps.{visit_at};
 ghost use Rattle.visit.specs.Visits.{carrier_visits, plan_visits};
 
 use fixed::list::Bounded;
@@ -8,6 +9,14 @@ use record::MAX_ENTRIES;
 use record::entry::Entry;
 use record::paths::Paths;
 use walk::visit::Visit;
+
+/// Whether a path's entry at a step is a visit.
+fn is_visit(path: &[Entry], step: usize) -> bool
+    requires { step < length path.now }
+    ensures { result ≡ visit_at (map (λ e. e.cell) path.now) step }
+{
+    step == 0 || path[step - 1].cell != path[step].cell
+}
 
 /// The visit that an entry is, at a step.
 fn visit_of(entry: &Entry, step: usize) -> Visit
@@ -22,18 +31,15 @@ fn visit_of(entry: &Entry, step: usize) -> Visit
 }
 
 /// Adds a carrier's visits.
-fn add_visits(entries: &[Entry], carrier: u8, visits: &mut Bounded<Visit, MAX_ENTRIES>)
-    requires room { length (items visits.old) + length (carrier_visits entries.now carrier) ≤ 512 }
-    requires few { length entries.now ≤ 512 }
-    ensures { items visits.new ≡ items visits.old ++ carrier_visits entries.now carrier }
+fn add_visits(paths: &Paths, carrier: u8, visits: &mut Bounded<Visit, MAX_ENTRIES>)
+    requires { length (items visits.old) + length (carrier_visits (paths_draft paths.now).entries carrier) ≤ 512 }
+    ensures { items visits.new ≡ items visits.old ++ carrier_visits (paths_draft paths.now).entries carrier }
 {
-    let mut last = None;
-    let own = entries.iter().filter(|entry| entry.carrier == carrier);
-    for (step, entry) in own.enumerate() {
-        if last != Some(entry.cell) {
+    let path = paths.path(carrier);
+    for (step, entry) in path.iter().enumerate() {
+        if is_visit(path, step) {
             visits.push(visit_of(entry, step)).unwrap();
         }
-        last = Some(entry.cell);
     }
 }
 
@@ -43,7 +49,7 @@ pub fn visits_of(paths: &Paths) -> Bounded<Visit, MAX_ENTRIES>
 {
     let mut visits = Bounded::new(Visit::default());
     for carrier in 0..paths.header().carriers {
-        add_visits(paths.entries(), carrier, &mut visits);
+        add_visits(paths, carrier, &mut visits);
     }
     visits
 }

@@ -21,10 +21,7 @@ fn load(bytes: &[u8], header: &Header) -> Bounded<Entry, MAX_ENTRIES>
     requires whole { length bytes.now ≡ 8 + 3 * header.now.entries }
     ensures { items result ≡ (draft bytes.now).entries }
 {
-    let mut entries = Bounded::new(Entry {
-        carrier: 0,
-        cell: 0,
-    });
+    let mut entries = Bounded::new(Entry::default());
     let (carriers, cells) = bytes[HEADER_LEN..].split_at(usize::from(header.entries));
     for (&carrier, cell) in carriers.iter().zip(cells.chunks_exact(2)) {
         let cell = word(cell, 0);

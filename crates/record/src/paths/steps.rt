@@ -1,4 +1,4 @@
-ghost use Rattle.std.specs.Prelude.{◌≡◌, ℕ, ◌==◌, ◌≤◌, map, filter, length};
+ghost use Rattle.std.specs.Prelude.{◌≡◌, ◌==◌, ◌≤◌, map, filter, length};
 ghost use Rattle.std.specs.List.{range_with_len};
 ghost use Rattle.record.specs.Paths.{paths_draft};
 ghost use Rattle.record.specs.Steps.{cell, visits, visit_count};
@@ -33,14 +33,11 @@ impl Paths {
         self.entries.as_slice()
     }
 
-    /// The entries of a carrier, which lie together; none for a carrier that the plan lacks.
-    fn path(&self, carrier: u8) -> &[Entry]
+    /// The entries of a carrier, by step; none for a carrier that the plan lacks.
+    pub fn path(&self, carrier: u8) -> &[Entry]
         ensures own { result.now ≡ filter (λ e. e.carrier == carrier) (paths_draft self.now).entries }
         ensures few { length result.now ≤ 512 }
     {
-        if carrier >= self.header.carriers {
-            return &[];
-        }
         let entries = self.entries();
         let rest = &entries[entries.partition_point(|entry| entry.carrier < carrier)..];
         &rest[..rest.partition_point(|entry| entry.carrier == carrier)]

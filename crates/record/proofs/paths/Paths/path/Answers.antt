@@ -4,12 +4,8 @@ use Rattle.std.proofs.lemmas.List.Sorted.{IsPartitionPoint-from_clause}
 use Rattle.std.specs.List.Sorted.{IsNonDecreasingBy}
 use Rattle.record.specs.declared.entry.Entry.{Entry}
 use Rattle.record.specs.Paths.{paths_draft}
-use Rattle.record.proofs.Together.{lacking, rising, below_parted, own_parted, together}
+use Rattle.record.proofs.Together.{rising, below_parted, own_parted, together}
 use Rattle.record.proofs.paths.Paths.path.Goals as goal
-
-pub returns-then-carrier-self-clause-own : goal.returns-then-carrier-self-clause-own
-returns-then-carrier-self-clause-own c =
-    lacking (paths_draft c.args.self.now) c.args.self.now.sound c.args.carrier c.if-carrier-self.true
 
 pub returns-clause-own : goal.returns-clause-own
 returns-clause-own c =
