@@ -1,5 +1,5 @@
 -- A carrier's visits, one of its entries after another.
-use Rattle.std.proofs.Common.{◌≡◌, ℕ, zero, suc, ◌<◌, Bool, true, not, ◌||◌, eqb, List, get_or, length, filter, Some, None, Option, sym, refl, ap, ◌∙◌, arith, Bor, Iter}
+use Rattle.std.proofs.Common.{◌≡◌, ℕ, zero, suc, ◌<◌, Bool, not, ◌||◌, eqb, List, get_or, length, filter, Some, None, Option, sym, refl, ap, ◌∙◌, arith, Bor, Iter}
 use native.Mathlib.Numerals.{unary_clauses}
 use denote.Param.Members.{Mut}
 use Rattle.std.specs.List.{enumerate_from}
@@ -14,7 +14,7 @@ use Rattle.std.proofs.iter.Yields.{fronts}
 use Rattle.std.proofs.Math.Dec.{eqb-suc-zero}
 use Rattle.std.proofs.lemmas.Iterator.{YieldsList, YieldsList-from_slice}
 use Rattle.std.proofs.lemmas.Iterator.Consumers.{YieldsList-at, YieldsList-from_filter, YieldsList-from_enumerate, YieldsList-turn, YieldsList-end}
-use Rattle.std.proofs.ByRecursion.{All-get_or, kept_by_passes}
+use Rattle.std.proofs.lemmas.List.Elements.{filter_passes}
 use Rattle.std.proofs.lemmas.Bool.{eqb-true}
 use Rattle.std.proofs.lemmas.List.{length-map, get_or-map}
 use Rattle.std.proofs.lemmas.List.FromFn.{length-enumerate_from, get_or-enumerate_from}
@@ -62,7 +62,7 @@ module _ {F : Type 0} (g : Mut F (Bor (Bor Entry) × Unit {0}) Bool) (es : List 
       let mine : List Entry = own_entries es i in
       let l : length xs < length mine = omega (arith, length-enumerate_from 0 mine) in
       let at = same ∙ get_or-enumerate_from 0 mine (length xs) (step, e.now) l in
-      let passes = All-get_or (λ x. eqb x.carrier i ≡ true) mine (length xs) e.now l (kept_by_passes (λ x. eqb x.carrier i) es) in
+      let passes = filter_passes (λ x. eqb x.carrier i) es (length xs) e.now l in
       let own = ap (λ (p : ℕ × Entry). p.1.carrier) at ∙ eqb-true _ _ passes in
       record {
         within = omega (arith, length-map mine (λ (x : Entry). x.cell));
