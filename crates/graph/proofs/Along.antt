@@ -1,9 +1,9 @@
 -- Sums over links are sums along the edges that the links are.
-use Rattle.std.proofs.Common.{◌≡◌, ℕ, zero, suc, ◌+◌, ◌<◌, true, cond, eqb, ltb, List, [], ◌∷◌, ◌++◌, map, length, take, sym, ap, ◌∙◌, arith}
-use Rattle.std.specs.List.{range_with_len, flat_map, AllByRecursion}
+use Rattle.std.proofs.Common.{◌≡◌, ℕ, zero, suc, ◌+◌, ◌<◌, true, cond, eqb, ltb, List, [], ◌∷◌, ◌++◌, map, length, take, All, sym, ap, ◌∙◌, arith}
+use Rattle.std.specs.List.{range_with_len, flat_map}
 use Rattle.std.proofs.lemmas.List.{get_or-take}
 use Rattle.std.proofs.lemmas.List.FromFn.{fill_by_all, length-map-range_with_len, get_or-map-range_with_len}
-use Rattle.std.proofs.ByRecursion.{All-get_or, All-map, All-weaker, kept_by_passes}
+use Rattle.std.proofs.lemmas.List.Elements.{All-map, All-weaker, filter_passes}
 use Rattle.std.proofs.lemmas.Bool.{and_parts, ltb-true}
 use Rattle.walk.specs.declared.visit.Visit.{Visit}
 use Rattle.walk.specs.declared.crossing.Crossing.{Crossing}
@@ -30,19 +30,18 @@ module _ (vs : List Visit) (cs : List Crossing) (ways : ℕ → Ways) (between :
       let b = between k (ltb-true _ _ l) in
       (next_there vs _ (and_parts (ways k).reversed _ r).1, omega arith)
 
-  edges_within : AllByRecursion (λ e. Within (length vs) (link cs e)) (edges vs cs ways)
+  edges_within : All (λ e. Within (length vs) (link cs e)) (edges vs cs ways)
   edges_within =
       All-weaker (λ e. is_edge vs cs ways e ≡ true) (λ e. Within (length vs) (link cs e)) edge_within (edges vs cs ways)
-      (kept_by_passes (is_edge vs cs ways)
+      (filter_passes (is_edge vs cs ways)
       (map path_edge (range_with_len 0 (length vs)) ++ flat_map (λ k. plan_edge k ∷ reversed_edge k ∷ []) (range_with_len 0 (length cs))))
 
-  edges_from : AllByRecursion (λ e. from cs e < length vs) (edges vs cs ways)
+  edges_from : All (λ e. from cs e < length vs) (edges vs cs ways)
   edges_from = All-weaker (λ e. Within (length vs) (link cs e)) (λ e. from cs e < length vs) (λ e w. w.0) (edges vs cs ways) edges_within
 
   pub links_within : Inside (length vs) (links vs cs ways)
   links_within k h =
-      All-get_or (Within (length vs)) (links vs cs ways) k (record { from = 0; to = 0 }) h
-      (All-map (Within (length vs)) (link cs) (edges vs cs ways) edges_within)
+      All-map (Within (length vs)) (link cs) (edges vs cs ways) edges_within k (record { from = 0; to = 0 }) h
 
 module _ {K : Type 0} (ops : Operations K) (laws : Laws ops) (vs : List Visit) (cs : List Crossing) (es : List Edge) (start : ℕ → K) where
   over_links : (f g : ℕ → K) → ((u : ℕ) → f u ≡ g u) → (v : ℕ) (fs : List Edge) → map (over_edge ops laws vs link_from link_to start f v) (map (link cs) fs) ≡ map (over_edge ops laws vs (from cs) (to cs) start g v) fs

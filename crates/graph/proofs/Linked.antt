@@ -1,13 +1,15 @@
 -- Links one after another, and the edges that they are.
-use Rattle.std.proofs.Common.{◌≡◌, ℕ, ◌+◌, ◌*◌, ◌<◌, ◌≤◌, Bool, true, false, cond, ◌&&◌, ltb, Option, Some, None, List, [], ◌∷◌, ◌++◌, map, length, filter, sym, refl, ap, ◌∙◌, arith}
-use Rattle.std.specs.List.{range_with_len, cons_option, filter_map, flat_map, AllByRecursion}
+use Rattle.std.proofs.Common.{◌≡◌, ℕ, ◌+◌, ◌*◌, ◌<◌, ◌≤◌, Bool, true, false, cond, ◌&&◌, ltb, Option, Some, None, List, [], ◌∷◌, ◌++◌, map, length, get_or, filter, All, sym, refl, ap, ◌∙◌, arith}
+use Rattle.std.specs.List.{range_with_len, cons_option, filter_map, flat_map}
 use Rattle.std.specs.Option.{option_to_list}
+use Rattle.std.proofs.lemmas.List.Concat.{length-flat_map}
 use Rattle.std.proofs.lemmas.List.FromFn.{length-range_with_len}
-use Rattle.std.proofs.lemmas.List.Elements.{filter-append}
+use Rattle.std.proofs.lemmas.List.Sums.{sum_by-le}
+use Rattle.std.proofs.lemmas.List.Elements.{All-tail, filter-append}
 use Rattle.std.proofs.lemmas.List.{length-append, append_assoc, map-append}
 use Rattle.std.proofs.lemmas.Bool.{lt-ltb}
 use Rattle.fixed.proofs.Counting.{one_more}
-use Rattle.visit.proofs.Ordered.{all_below}
+use Rattle.walk.proofs.Lists.{all_below}
 use Rattle.walk.specs.declared.visit.Visit.{Visit}
 use Rattle.walk.specs.declared.crossing.Crossing.{Crossing}
 use Rattle.walk.specs.declared.crossing.Ways.{Ways}
@@ -40,18 +42,15 @@ pub path_few : (vs : List Visit) (n : ℕ) → length (filter_map (path_link vs)
 path_few vs n = omega (arith, kept_few (path_link vs) (range_with_len 0 n), length-range_with_len 0 n)
 
 module _ (vs : List Visit) (cs : List Crossing) (ways : ℕ → Ways) where
-  joined_few : (ks : List ℕ) → length (flat_map (crossing_links vs cs ways) ks) ≤ 2 * length ks
-  joined_few [] = omega arith
-  joined_few (k ∷ ks) =
+  crossings_few : (n : ℕ) → length (flat_map (crossing_links vs cs ways) (range_with_len 0 n)) ≤ 2 * n
+  crossings_few n =
+      let ks = range_with_len 0 n in
       omega (
         arith,
-        length-append (crossing_links vs cs ways k) (flat_map (crossing_links vs cs ways) ks),
-        crossing_few vs cs ways k,
-        joined_few ks,
+        length-flat_map (crossing_links vs cs ways) ks,
+        sum_by-le (λ k. length (crossing_links vs cs ways k)) 2 ks (λ k d l. crossing_few vs cs ways (get_or ks k d)),
+        length-range_with_len 0 n,
       )
-
-  crossings_few : (n : ℕ) → length (flat_map (crossing_links vs cs ways) (range_with_len 0 n)) ≤ 2 * n
-  crossings_few n = omega (arith, joined_few (range_with_len 0 n), length-range_with_len 0 n)
 
   -- before a crossing's links are added there is room for both
   pub room_left : (paths before : List Link) (k : ℕ)
@@ -112,11 +111,11 @@ module _ (vs : List Visit) (cs : List Crossing) (ways : ℕ → Ways) where
       ∙ sym (kept_one (link cs) (ways k).plan (plan_edge k) after)
       ∙ ap (λ t. map (link cs) (cond (t && (ways k).plan) (plan_edge k ∷ cond (t && back) (reversed_edge k ∷ rest) rest) (cond (t && back) (reversed_edge k ∷ rest) rest))) (sym there)
 
-  crossing_part : (ns : List ℕ) → AllByRecursion (λ k. k < length cs) ns → flat_map (crossing_links vs cs ways) ns ≡ map (link cs) (filter (is_edge vs cs ways) (flat_map (λ k. plan_edge k ∷ reversed_edge k ∷ []) ns))
+  crossing_part : (ns : List ℕ) → All (λ k. k < length cs) ns → flat_map (crossing_links vs cs ways) ns ≡ map (link cs) (filter (is_edge vs cs ways) (flat_map (λ k. plan_edge k ∷ reversed_edge k ∷ []) ns))
   crossing_part [] there = refl
   crossing_part (k ∷ ns) there =
-      ap (λ r. crossing_links vs cs ways k ++ r) (crossing_part ns there.1)
-      ∙ two_kept k (ltb k (length cs)) (filter (is_edge vs cs ways) (flat_map (λ j. plan_edge j ∷ reversed_edge j ∷ []) ns)) (lt-ltb _ _ there.0)
+      ap (λ r. crossing_links vs cs ways k ++ r) (crossing_part ns (All-tail (λ j. j < length cs) k ns there))
+      ∙ two_kept k (ltb k (length cs)) (filter (is_edge vs cs ways) (flat_map (λ j. plan_edge j ∷ reversed_edge j ∷ []) ns)) (lt-ltb _ _ (there 0 k (omega arith)))
 
   -- links along paths and then at crossings are the edges
   pub links_are : filter_map (path_link vs) (range_with_len 0 (length vs)) ++ flat_map (crossing_links vs cs ways) (range_with_len 0 (length cs)) ≡ links vs cs ways

@@ -1,8 +1,7 @@
 -- Rounds: each adds the walks of one link more.
-use Rattle.std.proofs.Common.{◌≡◌, ℕ, suc, ◌+◌, ◌-◌, ◌<◌, ◌≤◌, cond, List, map, length, get_or, take, set, sym, refl, ap, ◌∙◌, subst, ⊎_elim, add-one, arith, eq-eqb, ne_eqb}
-use Rattle.std.specs.List.{AllByRecursion}
+use Rattle.std.proofs.Common.{◌≡◌, ℕ, suc, ◌+◌, ◌-◌, ◌<◌, ◌≤◌, cond, List, map, length, get_or, take, set, All, sym, refl, ap, ◌∙◌, subst, ⊎_elim, add-one, arith, eq-eqb, ne_eqb}
 use Rattle.std.proofs.lemmas.Bool.{cases_eq}
-use Rattle.std.proofs.ByRecursion.{All-from_get_or}
+use Rattle.std.proofs.lemmas.List.Elements.{All-from_get_or}
 use Rattle.std.proofs.lemmas.List.{map_more, get_or-set_same, get_or-set_other}
 use Rattle.walk.specs.declared.visit.Visit.{Visit}
 use Rattle.walk.specs.Edges.{visit}
@@ -57,7 +56,7 @@ module _ {K : Type 0} (ops : Operations K) (laws : Laws ops) (vs : List Visit) (
   abbrev sum : List Link → ℕ → ℕ → K
   sum ls = sum_over ops vs link_from link_to ls (λ u. get_or start u ops.zero)
 
-  sources : (n : ℕ) (ls : List Link) → Inside n ls → AllByRecursion (λ l. l.from < n) ls
+  sources : (n : ℕ) (ls : List Link) → Inside n ls → All (λ l. l.from < n) ls
   sources n ls inside = All-from_get_or (λ l. l.from < n) ls no_link (λ i h. (inside i h).0)
 
   -- a round over the sums of k links gives those of one link more

@@ -1,7 +1,8 @@
 -- How many visits there are.
 use Rattle.std.proofs.Common.{◌≡◌, ℕ, zero, suc, ◌+◌, ◌≤◌, Bool, cond, eqb, ltb, List, [], ◌∷◌, length, sum_by, count_by, filter, refl, ap, ◌∙◌, subst, add-one, arith}
-use Rattle.std.specs.List.{range_with_len, flat_map}
+use Rattle.std.specs.List.{range_with_len}
 use Rattle.std.proofs.lemmas.List.{length-append, length-map}
+use Rattle.std.proofs.lemmas.List.Concat.{length-flat_map}
 use Rattle.std.proofs.lemmas.List.Sums.{length-filter, count_by-le-length, sum_by-cons}
 use Rattle.std.proofs.lemmas.List.FromFn.{length-range_with_len}
 use Rattle.std.proofs.lemmas.Bool.Decides.{nat_tests}
@@ -84,18 +85,6 @@ first_more es n = ap length (joined_counting (carrier_visits es) n) ∙ length-a
 
 -- the visits of the first carriers, counted carrier by carrier
 pub count_visits : (es : List Entry) (n : ℕ) → length (first_visits es n) ≡ sum_by (λ i. visit_count (path es i)) (range_with_len 0 n)
-count_visits es n = counted (range_with_len 0 n)
-  where
-    count : ℕ → ℕ
-    count i = visit_count (path es i)
-
-    counted : (is : List ℕ) → length (flat_map (carrier_visits es) is) ≡ sum_by count is
-    counted [] = refl
-    counted (i ∷ is) =
-        omega (
-          arith,
-          length-append (carrier_visits es i) (flat_map (carrier_visits es) is),
-          carrier_count es i,
-          counted is,
-          sum_by-cons count i is,
-        )
+count_visits es n =
+    length-flat_map (carrier_visits es) (range_with_len 0 n)
+    ∙ (λ j. sum_by (λ i. carrier_count es i j) (range_with_len 0 n))

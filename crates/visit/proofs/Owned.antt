@@ -2,7 +2,7 @@
 use Rattle.std.proofs.Common.{◌≡◌, ℕ, zero, suc, ◌+◌, ◌-◌, ◌<◌, ◌≤◌, Bool, false, ◌&&◌, eqb, ltb, ◌⊎◌, List, [], ◌∷◌, map, length, filter, sym, refl, ap, ◌∙◌, inl, inr, ⊎_elim, add-zero, arith}
 use Rattle.std.specs.List.{range_with_len}
 use Rattle.std.proofs.lemmas.List.{length-map, get_or_append_left, get_or-append-add}
-use Rattle.std.proofs.ByRecursion.{All-get_or, has_get_or}
+use Rattle.std.proofs.lemmas.List.Elements.{Contains-get_or}
 use Rattle.std.proofs.lemmas.Bool.{and_right, eq-eqb, ne_eqb, le-ltb, cases_eq, cases_lt}
 use Rattle.fault.specs.declared.kinds.Flaw.TheVariants.{Carrier}
 use Rattle.record.specs.declared.entry.Entry.{Entry}
@@ -12,10 +12,11 @@ use Rattle.record.specs.Steps.{path, visit_at}
 use Rattle.record.proofs.Layers.{same_unless}
 use Rattle.walk.specs.declared.visit.Visit.{Visit}
 use Rattle.walk.specs.Edges.{no_visit, visit, has_next}
+use Rattle.walk.proofs.Lists.{has_kept}
 use Rattle.fixed.proofs.Counting.{joined_counting}
 use Rattle.visit.specs.Visits.{visit_of, carrier_visits, first_visits, plan_visits, last_visit, LastOf}
 use Rattle.visit.proofs.Few.{first_more, visits_rise}
-use Rattle.visit.proofs.Ordered.{all_kept_below, has_kept}
+use Rattle.visit.proofs.Ordered.{all_kept_below}
 
 -- ---- where a carrier's visits stand
 
@@ -46,7 +47,7 @@ module _ (es : List Entry) where
       ∙ ap (λ vs. visit vs at) (joined_counting (carrier_visits es) i)
       ∙ get_or-append-add (first_visits es i) (carrier_visits es i) k no_visit
       )
-      ∙ All-get_or (λ (a : Visit). a.carrier ≡ i) (carrier_visits es i) k no_visit l own
+      ∙ own k no_visit l
 
 -- ---- every carrier has a visit
 
@@ -92,7 +93,7 @@ module _ (d : Draft) (sound : Sound d) where
     some_visits =
         let (j, h, e) = up_to (length es - 1) i (omega arith) (omega (arith, last_is)) in
         let own : Entry → Bool = λ x. eqb x.carrier i in
-        let (k, there, at) = has_kept own es (entry es j) (has_get_or es j no_entry h) (eq-eqb _ _ e) in
+        let (k, there, at) = has_kept own es (entry es j) (Contains-get_or es j no_entry h) (eq-eqb _ _ e) in
         visited i (path es i) (omega (arith, length-map (filter own es) (λ x. x.cell)))
 
     last_is_own : (visit (plan_visits d) (last_visit d i)).carrier ≡ i

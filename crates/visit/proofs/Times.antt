@@ -1,7 +1,8 @@
 -- The times of a plan's visits, where no two carriers are in conflict.
-use Rattle.std.proofs.Common.{◌≡◌, ℕ, zero, suc, ◌+◌, ◌-◌, ◌<◌, ◌≤◌, min, true, false, ◌⊎◌, List, length, get_or, filter, sym, refl, ap, ◌∙◌, subst, inl, inr, ⊎_elim, add-zero, arith}
-use Rattle.std.specs.List.{range_with_len, ContainsAt, AllByRecursion}
-use Rattle.std.proofs.ByRecursion.{All-get_or}
+use Rattle.std.proofs.Common.{◌≡◌, ℕ, zero, suc, ◌+◌, ◌-◌, ◌<◌, ◌≤◌, min, true, false, ◌⊎◌, List, length, get_or, filter, All, AllPairs, Contains, sym, refl, ap, ◌∙◌, subst, inl, inr, ⊎_elim, add-zero, arith}
+use Rattle.std.specs.List.{range_with_len}
+use Rattle.std.proofs.lemmas.List.{get_or_default}
+use Rattle.std.proofs.lemmas.List.Kept.{AllPairs-filter}
 use Rattle.std.proofs.lemmas.Bool.{cases_lt, cases_order, cases_Bool, both_ways, and_parts, and_from, or_parts, or_from, not-true, not-false, not_from_true, eqb-true, eqb-false, eq-eqb, ne_eqb, ltb-true, lt-ltb}
 use Rattle.fault.specs.declared.kinds.Conflict.TheVariants.{Clash, Following}
 use Rattle.record.specs.Layout.{Draft}
@@ -10,11 +11,11 @@ use Rattle.walk.specs.declared.visit.Visit.{Visit}
 use Rattle.walk.specs.declared.crossing.Crossing.{Crossing}
 use Rattle.walk.specs.Edges.{no_visit, visit, no_crossing, crossing, has_next}
 use Rattle.walk.proofs.Timely.{Timely}
+use Rattle.walk.proofs.Lists.{has_counting, has_map, has_kept, has_joined, pairs_map, pairs_joined, counting_up}
 use Rattle.plan.specs.Conflicts.{ConflictFree}
 use Rattle.visit.specs.Visits.{visit_of, carrier_visits, plan_visits}
 use Rattle.visit.specs.Crossings.{crosses, crossing_of, crossings_from, plan_crossings}
-use Rattle.visit.proofs.Ordered.{Sorted, sorted_get_or, sorted_kept, sorted_map, sorted_joined, sorted_counting}
-use Rattle.visit.proofs.Ordered.{all_joined_below, all_kept_below, has_counting, has_map, has_kept, has_joined}
+use Rattle.visit.proofs.Ordered.{all_joined_below, all_kept_below}
 
 -- an entry that is no visit is in the cell of the one before it
 unmoved : (r : List ℕ) (t : ℕ) → visit_at r t ≡ false → get_or r (t - 1) 0 ≡ get_or r t 0
@@ -54,32 +55,32 @@ module _ (d : Draft) where
   vs = plan_visits d
 
   -- all visits are made
-  all_made : AllByRecursion (Made d) vs
+  all_made : All (Made d) vs
   all_made = all_joined_below (Made d) (carrier_visits d.entries) d.carriers own
     where
-      own : (i : ℕ) → i < d.carriers → AllByRecursion (Made d) (carrier_visits d.entries i)
+      own : (i : ℕ) → i < d.carriers → All (Made d) (carrier_visits d.entries i)
       own i manned =
           all_kept_below (Made d) (visit_of i (r i)) (visit_at (r i)) (length (r i))
           (λ t h e. record { manned = manned; within = h; entered = e; there = refl })
 
   made : (v : ℕ) → v < length vs → Made d (visit vs v)
-  made v h = All-get_or (Made d) vs v no_visit h all_made
+  made v h = all_made v no_visit h
 
   -- they are in order
-  in_order : Sorted Before vs
+  in_order : AllPairs Before vs
   in_order =
-      sorted_joined ◌<◌ Before (λ i a. a.carrier ≡ i) (carrier_visits d.entries) own
+      pairs_joined ◌<◌ Before (λ i a. a.carrier ≡ i) (carrier_visits d.entries) own
       (λ i. all_kept_below (λ a. a.carrier ≡ i) (visit_of i (r i)) (visit_at (r i)) (length (r i)) (λ t h e. refl))
-      (λ i j a b l e f. inl (omega arith)) (range_with_len 0 d.carriers) (sorted_counting 0 d.carriers)
+      (λ i j a b l e f. inl (omega arith)) (range_with_len 0 d.carriers) (counting_up d.carriers)
     where
-      own : (i : ℕ) → Sorted Before (carrier_visits d.entries i)
+      own : (i : ℕ) → AllPairs Before (carrier_visits d.entries i)
       own i =
           let all = range_with_len 0 (length (r i)) in
-          sorted_map ◌<◌ Before (visit_of i (r i)) (λ s t l. inr (refl, l)) (filter (visit_at (r i)) all)
-          (sorted_kept ◌<◌ (visit_at (r i)) all (sorted_counting 0 (length (r i))))
+          pairs_map ◌<◌ Before (visit_of i (r i)) (λ s t l. inr (refl, l)) (filter (visit_at (r i)) all)
+          (AllPairs-filter ◌<◌ (visit_at (r i)) all (counting_up (length (r i))))
 
   before : (u w : ℕ) → u < w → w < length vs → Before (visit vs u) (visit vs w)
-  before u w l h = sorted_get_or Before vs u w no_visit l h in_order
+  before u w = in_order u w no_visit
 
   up_to : (u w : ℕ) → u ≤ w → w < length vs → IsUpTo (visit vs u) (visit vs w)
   up_to u w l h = ⊎_elim (λ m. up_to_before (visit vs u) (visit vs w) (before u w m h)) (λ m. same (omega arith)) (cases_lt u w)
@@ -88,10 +89,10 @@ module _ (d : Draft) where
       same e = subst (λ k. IsUpTo (visit vs u) (visit vs k)) e (omega arith, λ _. omega arith)
 
   -- and none is missing
-  has_visit : (i t : ℕ) → i < d.carriers → t < length (r i) → visit_at (r i) t ≡ true → ContainsAt vs (visit_of i (r i) t)
+  has_visit : (i t : ℕ) → i < d.carriers → t < length (r i) → visit_at (r i) t ≡ true → Contains vs (visit_of i (r i) t)
   has_visit i t manned within e =
       let all = range_with_len 0 (length (r i)) in
-      has_joined (carrier_visits d.entries) (visit_of i (r i) t) (range_with_len 0 d.carriers) i (has_counting d.carriers i manned)
+      has_joined (carrier_visits d.entries) (range_with_len 0 d.carriers) i (visit_of i (r i) t) (has_counting d.carriers i manned)
       (has_map (visit_of i (r i)) (filter (visit_at (r i)) all) t
       (has_kept (visit_at (r i)) all t (has_counting (length (r i)) t within) e))
 
@@ -130,7 +131,7 @@ module _ (d : Draft) where
         visited : visit_at own t ≡ true → ⊥
         visited e =
             let (k, hk, at) = has_visit a.carrier t (made v h).manned within e in
-            let same : visit vs k ≡ visit_of a.carrier own t = at no_visit in
+            let same : visit vs k ≡ visit_of a.carrier own t = get_or_default vs k no_visit _ hk ∙ at in
             let now : (visit vs k).step ≡ t = ap (λ (b : Visit). b.step) same in
             let (next, first) = next_is v k h hk (ap (λ (b : Visit). b.carrier) same) (omega arith) in
             omega (arith, until next)
@@ -224,7 +225,7 @@ module _ (d : Draft) (free : ConflictFree d) where
 abbrev Cross : List Visit → Crossing → Type 0
 Cross vs c = (c.first < length vs) × (c.second < length vs) × (crosses vs c.first c.second ≡ true)
 
-all_cross : (vs : List Visit) → AllByRecursion (Cross vs) (plan_crossings vs)
+all_cross : (vs : List Visit) → All (Cross vs) (plan_crossings vs)
 all_cross vs =
     all_joined_below (Cross vs) (crossings_from vs) (length vs)
     (λ u hu. all_kept_below (Cross vs) (crossing_of vs u) (crosses vs u) (length vs) (λ w hw e. (hu, hw, e)))
@@ -233,7 +234,7 @@ pub plan_timely : (d : Draft) → ConflictFree d → Timely (plan_visits d) (pla
 plan_timely d free =
     let cs = plan_crossings (vs d) in
     let at : (k : ℕ) → k < length cs → Cross (vs d) (crossing cs k) =
-    λ k h. All-get_or (Cross (vs d)) cs k no_crossing h (all_cross (vs d)) in
+    λ k. all_cross (vs d) k no_crossing in
     record {
       later = later d;
       second_there = λ k h. (at k h).1;

@@ -1,15 +1,16 @@
 -- Every visit is reached along its carrier's path from the carrier's first visit. So what a first visit starts with comes to each
 -- visit of its carrier, if neither a join nor a step loses it.
-use Rattle.std.proofs.Common.{◌≡◌, ℕ, zero, suc, ◌+◌, ◌-◌, ◌<◌, ◌≤◌, true, false, eqb, List, [], ◌∷◌, map, length, sym, refl, ap, ◌∙◌, subst, inl, inr, ⊎_elim, arith}
+use Rattle.std.proofs.Common.{◌≡◌, ℕ, zero, suc, ◌+◌, ◌-◌, ◌<◌, ◌≤◌, true, false, eqb, List, [], ◌∷◌, map, length, Contains, sym, refl, ap, ◌∙◌, subst, ⊎_elim, arith}
 use Rattle.std.proofs.lemmas.Bool.{eqb-true, eq-eqb, lt-ltb, and_from, or_right, not_from_false, cases_Bool}
 use Rattle.walk.specs.declared.visit.Visit.{Visit}
 use Rattle.walk.specs.declared.crossing.Crossing.{Crossing}
 use Rattle.walk.specs.declared.crossing.Ways.{Ways}
 use Rattle.walk.specs.Edges.{Edge, path_edge, from, to, edges, visit, is_start}
-use Rattle.walk.specs.Walks.{In, GraphWalk, graph_walks}
+use Rattle.walk.specs.Walks.{GraphWalk, graph_walks}
 use Rattle.walk.specs.Values.{Operations}
 use Rattle.walk.specs.Sums.{total, brought, sum_over, sum_at}
-use Rattle.walk.proofs.Listed.{in_map, lists_walks}
+use Rattle.walk.proofs.Lists.{has_map}
+use Rattle.walk.proofs.Listed.{lists_walks}
 
 module _ (vs : List Visit) (cs : List Crossing) (ways : ℕ → Ways) where
   -- a walk to visit v from the first visit of its carrier, over each visit between them
@@ -62,10 +63,10 @@ pub record Keeps {K : Type 0} (ops : Operations K) (Live : K → Type 0) : Type 
   pub goes_on : (x : K) (v : Visit) → Live x → Live (ops.step x v)
 
 module _ {K : Type 0} (ops : Operations K) (Live : K → Type 0) (keeps : Keeps ops Live) where
-  one_live : (x : K) (xs : List K) → In x xs → Live x → Live (total ops xs)
-  one_live x [] h l = absurd h
-  one_live x (y ∷ xs) (inl e) l = keeps.joins_left y (total ops xs) (subst Live (sym e) l)
-  one_live x (y ∷ xs) (inr h) l = keeps.joins_right y (total ops xs) (one_live x xs h l)
+  one_live : (x : K) (xs : List K) → Contains xs x → Live x → Live (total ops xs)
+  one_live x [] (k, h, at) l = absurd (omega arith)
+  one_live x (y ∷ xs) (zero, h, at) l = keeps.joins_left y (total ops xs) (subst Live (sym at) l)
+  one_live x (y ∷ xs) (suc k, h, at) l = keeps.joins_right y (total ops xs) (one_live x xs (k, omega arith, at) l)
 
   module _ (vs : List Visit) (cs : List Crossing) (ways : ℕ → Ways) (start : ℕ → K) where
     brings_live :
@@ -81,7 +82,7 @@ module _ {K : Type 0} (ops : Operations K) (Live : K → Type 0) (keeps : Keeps 
     walk_live k u v w short walk l =
         let all = graph_walks vs cs ways k v in
         let brings = brought ops vs (from cs) start v in
-        let listed = in_map brings w all ((lists_walks vs cs ways k v).all u w short walk) in
+        let listed = has_map brings all w ((lists_walks vs cs ways k v).all u w short walk) in
         one_live (brings w) (map brings all) listed (brings_live u v w walk l)
 
     -- where the first visit of its carrier starts live, a visit's sum is

@@ -1,11 +1,11 @@
 -- Whatever directions are chosen, the graph has no circle.
-use Rattle.std.proofs.Common.{◌≡◌, ℕ, zero, suc, ◌+◌, ◌<◌, ◌≤◌, Bool, true, false, not, ◌&&◌, eqb, ltb, ◌⊎◌, List, [], ◌∷◌, ◌++◌, length, sym, refl, ◌∙◌, subst, inl, inr, arith}
+use Rattle.std.proofs.Common.{◌≡◌, ℕ, zero, suc, ◌+◌, ◌<◌, ◌≤◌, Bool, true, false, not, ◌&&◌, eqb, ltb, ◌⊎◌, List, [], ◌∷◌, ◌++◌, length, Contains, sym, refl, ◌∙◌, subst, inl, inr, arith}
 use Rattle.std.proofs.lemmas.Bool.{both_ways, cases_lt, and_parts, and_from, ltb-true, lt-ltb, ne_eqb, not-true, not_from_false}
 use Rattle.walk.specs.declared.visit.Visit.{Visit}
 use Rattle.walk.specs.declared.crossing.Crossing.{Crossing}
 use Rattle.walk.specs.Edges.{Edge, from, to, is_edge, has_next, visit, crossing}
 use Rattle.walk.specs.Edges.Edge.{path_edge, plan_edge, reversed_edge}
-use Rattle.walk.specs.Walks.{Walk, In, Distinct}
+use Rattle.walk.specs.Walks.{Walk, Distinct}
 use Rattle.walk.specs.Ways.{TestWalk, Tested, test_ways, Choice, chosen_ways, NoCircle}
 use Rattle.walk.proofs.Timely.{Timely}
 use Rattle.walk.proofs.Straight.{join, carry, in_walk, trail, straighten}
@@ -15,7 +15,7 @@ use Rattle.walk.proofs.Straight.{join, carry, in_walk, trail, straighten}
 abbrev pub ChainFree : List Visit → List Crossing → Type 0
 ChainFree vs cs =
     (k : ℕ) → k < length cs → (crossing cs k).two_way ≡ true → (w : List Edge) → TestWalk vs cs k w →
-    Distinct (trail cs ((crossing cs k).second + 1) w) → ((j : ℕ) → In (plan_edge j) w → In (reversed_edge j) w → ⊥) → ⊥
+    Distinct (trail cs ((crossing cs k).second + 1) w) → ((j : ℕ) → Contains w (plan_edge j) → Contains w (reversed_edge j) → ⊥) → ⊥
 
 -- the chosen edges, with only the crossings below b turned
 abbrev Below : List Visit → List Crossing → (ℕ → Bool) → ℕ → Edge → Type 0

@@ -1,5 +1,6 @@
 pub mod Timely
 pub mod Sums
+pub mod Lists
 pub mod Straight
 pub mod Circle
 pub mod Listed

@@ -1,7 +1,8 @@
 -- Sums along walks by their last edges. Neither idempotence nor the order of the edges is used.
-use Rattle.std.proofs.Common.{◌≡◌, ℕ, zero, suc, ◌+◌, ◌<◌, Bool, true, false, cond, eqb, List, [], ◌∷◌, ◌++◌, map, sym, refl, ap, ◌∙◌, add-zero, add-suc}
-use Rattle.std.specs.List.{flat_map, AllByRecursion}
+use Rattle.std.proofs.Common.{◌≡◌, ℕ, zero, suc, ◌+◌, ◌<◌, Bool, true, false, cond, eqb, List, [], ◌∷◌, ◌++◌, map, All, sym, refl, ap, ◌∙◌, add-zero, add-suc, arith}
+use Rattle.std.specs.List.{flat_map}
 use Rattle.std.proofs.lemmas.List.{map-append}
+use Rattle.std.proofs.lemmas.List.Elements.{All-tail}
 use Rattle.walk.specs.declared.visit.Visit.{Visit}
 use Rattle.walk.specs.Edges.{visit}
 use Rattle.walk.specs.Walks.{walks}
@@ -66,13 +67,13 @@ module _ {K : Type 0} (ops : Operations K) (laws : Laws ops) where
       sum_none v = join_zero (start v)
 
       -- where values agree at the visits that edges lead from, the edges bring the same
-      pub over_same : (f g : ℕ → K) (n v : ℕ) (fs : List E) → AllByRecursion (λ e. from e < n) fs → ((u : ℕ) → u < n → f u ≡ g u) → map (over_edge f v) fs ≡ map (over_edge g v) fs
+      pub over_same : (f g : ℕ → K) (n v : ℕ) (fs : List E) → All (λ e. from e < n) fs → ((u : ℕ) → u < n → f u ≡ g u) → map (over_edge f v) fs ≡ map (over_edge g v) fs
       over_same f g n v [] within same = refl
       over_same f g n v (e ∷ fs) within same =
-          λ i. cond (eqb (to e) v) (ops.step (same (from e) within.0 i) (visit vs v)) ops.zero ∷ over_same f g n v fs within.1 same i
+          λ i. cond (eqb (to e) v) (ops.step (same (from e) (within 0 e (omega arith)) i) (visit vs v)) ops.zero ∷ over_same f g n v fs (All-tail (λ d. from d < n) e fs within) same i
 
       -- once one edge more adds nothing, no number of edges more does
-      pub sum_stays : (k n : ℕ) → AllByRecursion (λ e. from e < n) es → ((u : ℕ) → u < n → sum_over ops vs from to es start (suc k) u ≡ sum_over ops vs from to es start k u) → (j u : ℕ) → u < n → sum_over ops vs from to es start (k + j) u ≡ sum_over ops vs from to es start k u
+      pub sum_stays : (k n : ℕ) → All (λ e. from e < n) es → ((u : ℕ) → u < n → sum_over ops vs from to es start (suc k) u ≡ sum_over ops vs from to es start k u) → (j u : ℕ) → u < n → sum_over ops vs from to es start (k + j) u ≡ sum_over ops vs from to es start k u
       sum_stays k n within quiet zero u h = ap (λ m. sum m u) (add-zero k)
       sum_stays k n within quiet (suc j) u h =
           ap (λ m. sum m u) (add-suc k j)
@@ -84,7 +85,7 @@ module _ {K : Type 0} (ops : Operations K) (laws : Laws ops) where
 -- starting values matter only at the visits that walks can come from
 pub sum_starts :
     {K E : Type 0} (ops : Operations K) (laws : Laws ops) (vs : List Visit) (from to : E → ℕ) (es : List E) (start other : ℕ → K) (n : ℕ) →
-    AllByRecursion (λ e. from e < n) es → ((u : ℕ) → u < n → start u ≡ other u) → (k v : ℕ) → v < n →
+    All (λ e. from e < n) es → ((u : ℕ) → u < n → start u ≡ other u) → (k v : ℕ) → v < n →
     sum_over ops vs from to es start k v ≡ sum_over ops vs from to es other k v
 sum_starts ops laws vs from to es start other n within same zero v h =
     sum_none ops laws vs from to start es v ∙ same v h ∙ sym (sum_none ops laws vs from to other es v)

@@ -1,5 +1,5 @@
 -- Walks over edges. Of an edge only the visits that it leads from and to matter here.
-use Rattle.std.specs.Prelude.{◌≡◌, ℕ, zero, suc, ◌≤◌, true, cond, ◌⊎◌, List, [], ◌∷◌, map, length, ◌==◌}
+use Rattle.std.specs.Prelude.{◌≡◌, ◌≢◌, ℕ, zero, suc, ◌≤◌, true, cond, List, [], ◌∷◌, map, length, ◌==◌, AllPairs, Contains}
 use Rattle.std.specs.List.{flat_map}
 use Rattle.walk.specs.declared.visit.Visit.{Visit}
 use Rattle.walk.specs.declared.crossing.Crossing.{Crossing}
@@ -12,14 +12,9 @@ abbrev pub Walk : {E : Type 0} → (E → ℕ) → (E → ℕ) → (E → Type 0
 Walk from to Is u v [] = u ≡ v
 Walk from to Is u v (e ∷ w) = Is e × (to e ≡ v) × Walk from to Is u (from e) w
 
-abbrev pub In : {X : Type 0} → X → List X → Type 0
-In x [] = ⊥
-In x (y ∷ ys) = (y ≡ x) ⊎ In x ys
-
 -- no element stands twice
 abbrev pub Distinct : {X : Type 0} → List X → Type 0
-Distinct [] = Unit {0}
-Distinct (x ∷ xs) = (In x xs → ⊥) × Distinct xs
+Distinct = AllPairs (λ a b. a ≢ b)
 
 -- the walks of at most k of the edges es that end at v, one after another
 abbrev pub walks : {E : Type 0} → (E → ℕ) → (E → ℕ) → List E → ℕ → ℕ → List (List E)
@@ -36,6 +31,6 @@ graph_walks vs cs ways = walks (from cs) (to cs) (edges vs cs ways)
 
 -- that list has nothing else, every one of them, and none twice
 pub record ListsWalks (vs : List Visit) (cs : List Crossing) (ways : ℕ → Ways) (k v : ℕ) : Type 0 where
-  pub only : (w : List Edge) → In w (graph_walks vs cs ways k v) → (length w ≤ k) × ((u : ℕ) × GraphWalk vs cs ways u v w)
-  pub all : (u : ℕ) (w : List Edge) → length w ≤ k → GraphWalk vs cs ways u v w → In w (graph_walks vs cs ways k v)
+  pub only : (w : List Edge) → Contains (graph_walks vs cs ways k v) w → (length w ≤ k) × ((u : ℕ) × GraphWalk vs cs ways u v w)
+  pub all : (u : ℕ) (w : List Edge) → length w ≤ k → GraphWalk vs cs ways u v w → Contains (graph_walks vs cs ways k v) w
   pub once : Distinct (graph_walks vs cs ways k v)
