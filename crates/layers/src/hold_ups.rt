@@ -42,7 +42,7 @@ impl HoldUp {
 }
 
 /// How often the movements of each carrier are held up.
-// Indexed after a test, not by `get_mut`: of what is written through that, a proof knows nothing.
+// Indexed after a test: through `get_mut` the proof did not close, for it knows no element after it.
 #[derive(Drop)]
 pub struct HoldUps {
     each: [HoldUp; MAX_CARRIERS],

@@ -11,6 +11,7 @@ use record::paths::Paths;
 use walk::visit::Visit;
 
 /// Whether a path's entry at a step is a visit.
+// `Paths::visits` counts runs of entries instead: a test for both would ask its callers for a step.
 fn is_visit(path: &[Entry], step: usize) -> bool
     requires { step < length path.now }
     ensures { result ≡ visit_at (map (λ e. e.cell) path.now) step }
