@@ -1,5 +1,6 @@
 use std::alloc::{AllocError, Global};
 
+// Carriers and cells are two lists, as in the record.
 /// The bytes of a record: the header, the carrier numbers, the cells.
 pub(crate) fn record(
     heap: Global,

@@ -5,7 +5,7 @@ use crate::place::Place;
 use fault::kinds::DriveFault;
 
 /// How many cells the largest floor has, 64 by 64.
-// The side stands in the crate `record` too: a drive knows no plans.
+// The side stands in `record`, which no drive knows: a crate below both for it would be no plainer.
 pub const MAX_CELLS: u16 = 4096;
 
 impl Place {

@@ -5,7 +5,7 @@ ghost use Rattle.drive.specs.Calls.{answer_of, told};
 use fault::kinds::DriveFault;
 
 /// The most carriers that a drive has.
-// The number stands in the crate `record` too: a drive knows no plans.
+// It stands in `record` too, which no drive knows: a crate below both for it would be no plainer.
 pub const MAX_CARRIERS: usize = 16;
 
 /// Where a carrier is: the cell in which it stands, or the two cells between which it goes.

@@ -22,6 +22,7 @@ pub(crate) struct Link {
 pub(crate) const MAX_LINKS: usize = MAX_ENTRIES + 2 * MAX_CROSSINGS;
 
 /// A crossing's plan edge, if it is taken.
+// Here and below what is asked is that one more fits a number, and not that there is such a visit.
 fn plan_link(crossing: &Crossing, taken: &Ways) -> Option<Link>
     requires { crossing.now.first < 512 }
     ensures { result ≡ plan_link crossing.now taken.now }

@@ -28,6 +28,7 @@ impl<D: Drive> HoldBack<D> {
     }
 
     /// Gives the drive below back.
+    // As of `Section`: a trait of layers would be longer than the line that it saves.
     pub fn into_inner(self) -> D
         ensures { result ≡ self.inner }
     {

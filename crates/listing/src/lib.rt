@@ -159,6 +159,7 @@ pub fn list(heap: Global, input: &[u8]) -> Result<String, AllocError>
     ensures { IfOk result (λ text. Listed input.now (string_bytes text)) }
 {
     let mut graph = Graph::new();
+    // No `map_or_else`, which would have a refusal before the text of a plan.
     match graph.load(record_in(input)) {
         Ok(()) => format!(in heap; "{}", GraphText(&graph)),
         Err(fault) => format!(in heap; "{}", RefusalLine(fault)),

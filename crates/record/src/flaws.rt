@@ -29,6 +29,7 @@ fn jumps(width: u8, before: Entry, after: Entry) -> bool
 }
 
 /// Refuses entries for the flaw at the index where it was found, if it was.
+// Paths are refused alike, with another fault: one function for both would be the longer.
 fn refuse(flaw: Flaw, at: Option<usize>) -> Result<(), EntryFault>
     requires { ForSome at (λ k. k ≤ 512) }
     ensures { result ≡ refusal flaw at }

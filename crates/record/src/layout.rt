@@ -79,10 +79,8 @@ pub fn split_record(bytes: &[u8]) -> (&[u8], &[u8])
     ensures before { result.0.now ≡ front bytes.now }
     ensures after { result.1.now ≡ rest bytes.now }
 {
-    match Head::new(bytes) {
-        Some(head) => bytes.split_at(head.record_len().min(bytes.len())),
-        None => (bytes, &[]),
-    }
+    let end = Head::new(bytes).map_or(bytes.len(), |head| head.record_len().min(bytes.len()));
+    bytes.split_at(end)
 }
 
 /// The header of a record that is as long as it says, or what is wrong with the record.

@@ -13,6 +13,7 @@ pub trait Kind: Copy + Eq {
     ghost ops: { Operations Self };
 
     /// The value that stands for nothing.
+    // No `Default`: the laws are about zero, and one more would have to say that it is the default.
     fn zero() -> Self
         ensures { result ≡ ops.zero };
 

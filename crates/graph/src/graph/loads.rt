@@ -13,7 +13,7 @@ use fault::kinds::GraphFault;
 use plan::accepted::Plan;
 
 /// The graph of a plan, unless it has too many crossings.
-// No `TryFrom`, nor for the two below: they are steps of `load`, which makes a graph in place.
+// No `TryFrom`, nor for the next: as a public call it would promise `load`'s five clauses once more.
 fn build(plan: Plan) -> Result<Graph, GraphFault>
     ensures { MatchResult result (λ g. graph_draft g ≡ plan_draft plan) (λ f. (f ≡ Crossings) × (1024 < length (plan_crossings (plan_visits (plan_draft plan))))) }
 {

@@ -10,7 +10,7 @@ use walk::crossing::Crossing;
 use walk::visit::Visit;
 
 /// The numbers of a plan's record; of no plan each is 0.
-// No Option of a header: callers are promised numbers, and ask nothing.
+// No Option of a header, whose numbers are in their ranges: without a plan callers have zeros.
 #[derive(Clone, Copy, PartialEq, Eq, Debug, Default)]
 pub struct Outline {
     pub width: u8,

@@ -28,7 +28,7 @@ impl Net {
     }
 
     /// The visits of a plan and their crossings, unless these are too many.
-    // No `TryFrom`: it is a step of `Graph::load`, which makes a graph in place.
+    // No `TryFrom`, as for the graph that it is a step of.
     pub(crate) fn of(plan: &Plan) -> Result<Net, Full>
         ensures { MatchResult result (λ net. GraphOf (plan_draft plan.now) (net_visits net) (net_crossings net)) (λ _. 1024 < length (plan_crossings (plan_visits (plan_draft plan.now)))) }
     {

@@ -7,7 +7,7 @@ use fault::kinds::{Conflict, PlanFault};
 use record::paths::Paths;
 
 /// Refuses paths for their soonest conflict of a kind.
-// Entries are refused alike, with another fault: one function for both would be longer than they are.
+// Entries are refused alike, with another fault: one function for both would be the longer.
 fn refuse(paths: &Paths, kind: Conflict) -> Result<(), PlanFault>
     ensures { Refuses paths.now kind result }
 {
