@@ -1,5 +1,6 @@
 #!/bin/sh
 # Lists where src/ may hold a place of each point of docs/DESIGN-PASS.md; run it at the top.
+# Point 2 needs `duplicates`, a command that lists the runs of lines that two files share.
 src() { grep -rnE "$1" crates/*/src --include=*.rt; }
 echo '1. own Options and Results, flags with values, numbers for kinds'
 src '^(pub )?enum |\b\w+: bool\b|let mut \w+ = (true|false)|fn (number|layer|place)s?\(|number: u8|\bNone => |let (Ok|Some)\(.*else|\b(Ok|Err)\(\w*(\(\))?\) => |if let Some'
@@ -8,7 +9,11 @@ dir=$(mktemp -d)
 for f in crates/*/src/*.rt crates/*/src/*/*.rt crates/*/src/*/*/*.rt; do
     [ -e "$f" ] && cp "$f" "$dir/$(echo "$f" | tr / _ | sed 's/\.rt$/.rs/')"
 done
-duplicates --repo "$dir" --min-lines 5 --most 60
+if command -v duplicates > /dev/null; then
+    duplicates --repo "$dir" --min-lines 5 --most 60
+else
+    echo "no command duplicates here"
+fi
 rm -r "$dir"
 echo '3. loops that count by hand'
 src 'for \w+ in ([0-9]|\w+\.\.)|\bwhile |\bloop \{|\+= 1;'
