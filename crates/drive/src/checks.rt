@@ -1,5 +1,7 @@
 ghost use Rattle.std.specs.Prelude.{◌≡◌};
-ghost use Rattle.drive.specs.Refusals.{departure_from, destination_of};
+ghost use Rattle.std.specs.Option.{ok_or};
+ghost use Rattle.fault.specs.declared.kinds.DriveFault.TheVariants.{NoCarrier};
+ghost use Rattle.drive.specs.Refusals.{departure, destination, departure_from, destination_of};
 
 use crate::place::Place;
 use fault::kinds::DriveFault;
@@ -32,4 +34,27 @@ impl Place {
             Place::Going(_, to) => Ok(to),
         }
     }
+}
+
+/// The place of a carrier, or why it has none.
+fn known(place: Option<Place>, carrier: u8) -> Result<Place, DriveFault>
+    ensures { result ≡ ok_or place (NoCarrier carrier) }
+{
+    place.ok_or(DriveFault::NoCarrier(carrier))
+}
+
+/// The cell that a carrier leaves when it is sent to another, or why it is not sent. Its place is
+/// `None` where there is no such carrier.
+pub fn departure(place: Option<Place>, carrier: u8, to: u16) -> Result<u16, DriveFault>
+    ensures { result ≡ departure place carrier to }
+{
+    known(place, carrier)?.departure(carrier, to)
+}
+
+/// The cell to which a carrier goes, or why there is no report on it. Its place is `None` where
+/// there is no such carrier.
+pub fn destination(place: Option<Place>, carrier: u8) -> Result<u16, DriveFault>
+    ensures { result ≡ destination place carrier }
+{
+    known(place, carrier)?.destination(carrier)
 }

@@ -4,11 +4,11 @@ use Rattle.drive.specs.declared.place.Answer.{Answer}
 use Rattle.drive.specs.declared.place.Answer.TheVariants.{There}
 use Rattle.drive.specs.declared.place.Place.{Place}
 use Rattle.drive.specs.Calls.{answer_of}
-use Rattle.drives.specs.Fleets.{gone, answered}
+use Rattle.drives.specs.Fleets.{Carriers, gone, answered}
 
 -- where the carriers are, and the bytes that are left
 pub record Recording : Type 0 where
-  pub places : List Place
+  pub fleet : Carriers
   pub bytes : List ℕ
 
 -- the next byte as an answer; the list's end is "there"
@@ -17,14 +17,14 @@ next_answer [] = There
 next_answer (b ∷ bs) = answer_of b
 
 abbrev pub recorded_places : Recording → List Place
-recorded_places d = d.places
+recorded_places d = d.fleet.places
 
 abbrev pub recorded_sent : Recording → ℕ → ℕ → Recording
-recorded_sent d c t = record d { places = gone d.places c t }
+recorded_sent d c t = record d { fleet = gone d.fleet c t }
 
 -- the next byte is taken, if there is one, and a report on carrier c is answered
 abbrev pub recorded_answered : Recording → ℕ → Answer → Recording
-recorded_answered d c a = record { places = answered d.places c a; bytes = drop 1 d.bytes }
+recorded_answered d c a = record { fleet = answered d.fleet c a; bytes = drop 1 d.bytes }
 
 -- the rule: the answer is the next byte's
 abbrev pub recorded_reports : Recording → ℕ → Answer → Recording → Type 0

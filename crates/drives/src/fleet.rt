@@ -1,8 +1,8 @@
-ghost use Rattle.std.specs.Prelude.{◌≡◌, map, take, slice_set};
+ghost use Rattle.std.specs.Prelude.{◌≡◌, map, take};
 ghost use Rattle.std.specs.List.{slice_get};
 ghost use Rattle.drive.specs.declared.place.Place.TheVariants.{Standing};
 ghost use Rattle.drive.specs.Refusals.{destination};
-ghost use Rattle.drives.specs.Fleets.{gone, fleet_reports, Answered};
+ghost use Rattle.drives.specs.Fleets.{with_place, gone, fleet_reports, Answered};
 
 use drive::interface::Drive;
 use drive::place::{Answer, MAX_CARRIERS, Place};
@@ -17,21 +17,22 @@ pub struct Fleet {
     places: Bounded<Place, MAX_CARRIERS>,
 }
 
-// Clauses see the list of the carriers' places.
+// Clauses see the carriers' places, and that they are at most 16.
 impl Model for Fleet {
-    ghost use Rattle.std.specs.Prelude.{List};
+    ghost use Rattle.drives.specs.Fleets.{Carriers};
+
+    ghost Value = { Carriers };
+
     ghost use Rattle.fixed.specs.Items.{items};
-    ghost use Rattle.drive.specs.declared.place.Place.{Place};
+    ghost use Rattle.fixed.proofs.Held.{items_few};
 
-    ghost Value = { List Place };
-
-    ghost view = { λ f. items f.places };
+    ghost view = { λ f. record { places = items f.places; few = items_few f.places } };
 }
 
 impl Fleet {
     /// Carriers that stand in the first 16 of the cells, or in all of them if they are fewer.
     pub fn new(cells: &[u16]) -> Fleet
-        ensures { result ≡ map Standing (take 16 cells.now) }
+        ensures { result.places ≡ map Standing (take 16 cells.now) }
     {
         let mut places = Bounded::new(Place::Standing(0));
         for &cell in cells.iter().take(MAX_CARRIERS) {
@@ -42,7 +43,7 @@ impl Fleet {
 
     /// The cell to which a carrier goes.
     pub fn destination(&self, carrier: u8) -> Result<u16, DriveFault>
-        ensures { result ≡ destination (slice_get self.now carrier) carrier }
+        ensures { result ≡ destination (slice_get self.now.places carrier) carrier }
     {
         self.place(carrier)?.destination(carrier)
     }
@@ -60,14 +61,14 @@ impl Fleet {
 
     /// A carrier is in another place.
     fn put(&mut self, carrier: u8, place: Place)
-        ensures { self.new ≡ slice_set self.old carrier place }
+        ensures { self.new ≡ with_place self.old carrier place }
     {
         self.places.set(usize::from(carrier), place);
     }
 }
 
 impl Drive for Fleet {
-    ghost meaning = { λ f. f };
+    ghost meaning = { λ f. f.places };
 
     ghost sent = { gone };
 

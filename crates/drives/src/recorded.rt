@@ -23,13 +23,13 @@ impl<'a> Model for Recorded<'a> {
 
     ghost Value = { Recording };
 
-    ghost view = { λ d. record { places = d.fleet; bytes = d.bytes.now } };
+    ghost view = { λ d. record { fleet = d.fleet; bytes = d.bytes.now } };
 }
 
 impl<'a> Recorded<'a> {
     /// Carriers that stand in the first 16 of the cells, or in all of them if they are fewer.
     pub fn new(cells: &[u16], bytes: &'a [u8]) -> Recorded<'a>
-        ensures stand { result.places ≡ map Standing (take 16 cells.now) }
+        ensures stand { result.fleet.places ≡ map Standing (take 16 cells.now) }
         ensures bytes { result.bytes ≡ bytes.now }
     {
         Recorded {

@@ -44,7 +44,7 @@ module _ (vs : List Visit) (cs : List Crossing) (ways others : ℕ → Ways) (sa
 
 -- ---- crossings that differ only in which are two-way
 
-get_or_one_way : (cs : List Crossing) (k : ℕ) → get_or (map one_way cs) k no_crossing ≡ one_way (crossing cs k)
+pub get_or_one_way : (cs : List Crossing) (k : ℕ) → get_or (map one_way cs) k no_crossing ≡ one_way (crossing cs k)
 get_or_one_way cs k = get_or-map one_way cs k no_crossing
 
 module _ (cs ds : List Crossing) (alike : map one_way cs ≡ map one_way ds) where
@@ -80,7 +80,7 @@ module _ (cs ds : List Crossing) (alike : map one_way cs ≡ map one_way ds) whe
           clear = λ k h. rw (← firsts k, ← seconds k) (t.clear k (omega (arith, lengths)));
         }
 
-    candidate_alike : (k : ℕ) → Candidate vs cs k → Candidate vs ds k
+    pub candidate_alike : (k : ℕ) → Candidate vs cs k → Candidate vs ds k
     candidate_alike k (s, n) = (rw (← firsts k) s, rw (← seconds k) n)
 
     edges_alike : (ways : ℕ → Ways) (e : Edge) → is_edge vs cs ways e ≡ is_edge vs ds ways e
@@ -103,7 +103,7 @@ module _ (cs ds : List Crossing) (alike : map one_way cs ≡ map one_way ds) whe
             reversed = ⊎_elim (λ l. ap (λ b. ltb j k && b) (before j l)) (λ l. ap (λ b. b && (crossing cs j).two_way) (le-ltb j k l) ∙ sym (ap (λ b. b && (crossing ds j).two_way) (le-ltb j k l))) (cases_lt j k) i;
           }
 
-      test_alike : (w : List Edge) → TestWalk vs cs k w → TestWalk vs ds k w
+      pub test_alike : (w : List Edge) → TestWalk vs cs k w → TestWalk vs ds k w
       test_alike w h =
           let P : ℕ → ℕ → Type 0 = λ u v. GraphWalk vs ds (test_ways ds k) u (v + 1) w in
           let moved : GraphWalk vs cs (test_ways ds k) (crossing cs k).first ((crossing cs k).second + 1) w =

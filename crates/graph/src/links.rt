@@ -1,4 +1,4 @@
-ghost use Rattle.std.specs.Prelude.{◌≡◌, ◌+◌, ◌<◌, ◌++◌, length};
+ghost use Rattle.std.specs.Prelude.{◌≡◌, ◌+◌, ◌<◌, [], ◌++◌, length};
 ghost use Rattle.std.specs.Option.{option_to_list};
 ghost use Rattle.std.specs.List.{range_with_len, filter_map};
 ghost use Rattle.fixed.specs.Items.{items};
@@ -67,16 +67,16 @@ impl Net {
         })
     }
 
-    /// The links along all carriers' paths.
-    fn path_links(&self) -> Bounded<Link, MAX_LINKS>
-        ensures { items result ≡ filter_map (path_link (net_visits self.now)) (range_with_len 0 (length (net_visits self.now))) }
+    /// Adds the links along all carriers' paths, where there are no links yet.
+    // Not an answer: a list is large, and would be copied on the way.
+    fn add_path_links(&self, links: &mut Bounded<Link, MAX_LINKS>)
+        requires { items links.old ≡ [] }
+        ensures { items links.new ≡ filter_map (path_link (net_visits self.now)) (range_with_len 0 (length (net_visits self.now))) }
     {
-        let mut links = Bounded::new(Link::default());
         let count = self.visits().len() as u16;
         for link in (0..count).filter_map(|visit| self.path_link(visit)) {
             links.push(link).unwrap();
         }
-        links
     }
 
     /// The links of the net, where `ways` says which edges of each crossing are taken.
@@ -84,7 +84,8 @@ impl Net {
     pub(crate) fn links(&self, ways: &[Ways; MAX_CROSSINGS]) -> Bounded<Link, MAX_LINKS>
         ensures { items result ≡ links (net_visits self.now) (net_crossings self.now) (ways_in ways.now) }
     {
-        let mut links = self.path_links();
+        let mut links = Bounded::new(Link::default());
+        self.add_path_links(&mut links);
         for (crossing, taken) in self.crossings().iter().zip(ways) {
             add(&mut links, plan_link(crossing, taken));
             add(&mut links, self.reversed_link(crossing, taken));

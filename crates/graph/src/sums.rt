@@ -26,11 +26,24 @@ struct Sum<'a, K> {
     ghost started: { length start.now ≡ length visits.now },
 }
 
-/// Whether two lists have the same values.
+/// Whether two lists of one length have the same value in each place.
+fn agree<K: Kind>(values: &[K], next: &[K]) -> bool
+    requires { length values.now ≡ length next.now }
+    ensures { IsTrue result ↔ ((k : ℕ) → k < length values.now → slice_index_or values.now k K.ops.zero ≡ slice_index_or next.now k K.ops.zero) }
+{
+    values
+        .iter()
+        .zip(next)
+        .all(|(value, other)| value.same(*other))
+}
+
+/// Whether two lists of one length are the same.
+// Apart from `agree`, so that whoever asks need not go through the places.
 fn same<K: Kind>(values: &[K], next: &[K]) -> bool
+    requires { length values.now ≡ length next.now }
     ensures { IsTrue result ↔ (values.now ≡ next.now) }
 {
-    values == next
+    agree(values, next)
 }
 
 /// Takes `next` over into `values`, and says whether nothing changed.

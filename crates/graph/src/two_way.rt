@@ -7,7 +7,8 @@ ghost use Rattle.graph.specs.Graphs.{one_way, AllTested};
 ghost use Rattle.graph.specs.Nets.{net_visits, net_crossings};
 
 use crate::net::Net;
-use std::array;
+use crate::plan_sums::plan_ways;
+use record::MAX_ENTRIES;
 use walk::crossing::{Crossing, MAX_CROSSINGS, Ways};
 use walk::kinds::Mark;
 
@@ -37,10 +38,16 @@ impl Net {
     }
 
     /// The edges of a crossing's test.
+    // Past the crossings that there are nothing is read, so no time goes there.
     fn test_ways(&self, tested: usize) -> [Ways; MAX_CROSSINGS]
+        requires { tested < length (net_crossings self.now) }
         ensures { (j : ℕ) → j < 1024 → ways_in result j ≡ test_ways (net_crossings self.now) tested j }
     {
-        array::from_fn(|other| self.test_way(tested, other))
+        let mut ways = plan_ways();
+        for (other, way) in ways[..self.crossings().len()].iter_mut().enumerate() {
+            *way = self.test_way(tested, other);
+        }
+        ways
     }
 
     /// Whether a walk leads from one visit to another, where `ways` says which edges of each
@@ -50,7 +57,8 @@ impl Net {
         requires to { to < length (net_visits self.now) }
         ensures { IsTrue result ↔ ((w : List Edge) × GraphWalk (net_visits self.now) (net_crossings self.now) (ways_in ways.now) from to w) }
     {
-        let start = array::from_fn(|visit| Mark { set: visit == from });
+        let mut start = [Mark::default(); MAX_ENTRIES];
+        start[from] = Mark { set: true };
         self.sum_at(ways, &start, to).set
     }
 

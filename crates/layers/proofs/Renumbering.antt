@@ -20,7 +20,7 @@ within : (f n : ℕ) (ps : List Place) (c : ℕ) → c < length (part f n ps) �
 within f n ps c h = grind (arith, length-take, length-drop)
 
 -- it is where the drive below has it
-part_read : (f n : ℕ) (ps : List Place) (c : ℕ) → c < length (part f n ps) → slice_get (part f n ps) c ≡ slice_get ps (f + c)
+pub part_read : (f n : ℕ) (ps : List Place) (c : ℕ) → c < length (part f n ps) → slice_get (part f n ps) c ≡ slice_get ps (f + c)
 part_read f n ps c h =
     let w = within f n ps c h in
     slice_get-get_or (part f n ps) c (Standing 0) h
@@ -28,32 +28,32 @@ part_read f n ps c h =
     ∙ sym (slice_get-get_or ps (f + c) (Standing 0) w.1)
 
 -- to put it elsewhere is to put it there below
-part_set : (f n : ℕ) (ps : List Place) (c : ℕ) (p : Place) → c < length (part f n ps) → part f n (set ps (f + c) p) ≡ set (part f n ps) c p
+pub part_set : (f n : ℕ) (ps : List Place) (c : ℕ) (p : Place) → c < length (part f n ps) → part f n (set ps (f + c) p) ≡ set (part f n ps) c p
 part_set f n ps c p h = ap (take n) (drop-set-add f ps c p) ∙ take-set-lt n (drop f ps) c p (within f n ps c h).0
 
 -- a send, a report and an answer are the same of both numbers, but for the number that a fault names
-departs : (o : Option Place) (k c t : ℕ) → restated c (departure o k t) ≡ departure o c t
+pub departs : (o : Option Place) (k c t : ℕ) → restated c (departure o k t) ≡ departure o c t
 departs None k c t = refl
 departs (Some (Standing a)) k c t = grind (arith, nat_tests)
 departs (Some (Going a b)) k c t = grind (arith, nat_tests)
 
-arrives : (o : Option Place) (k c : ℕ) → restated c (destination o k) ≡ destination o c
+pub arrives : (o : Option Place) (k c : ℕ) → restated c (destination o k) ≡ destination o c
 arrives None k c = refl
 arrives (Some (Standing a)) k c = refl
 arrives (Some (Going a b)) k c = refl
 
-tells : (k c : ℕ) (a : Answer) → restated c (told k a) ≡ told c a
+pub tells : (k c : ℕ) (a : Answer) → restated c (told k a) ≡ told c a
 tells k c There = refl
 tells k c NotYet = refl
 
 -- after an answer all are where they are below
-settles : (f n : ℕ) (ps : List Place) (c b : ℕ) (a : Answer) → c < length (part f n ps) → part f n (settled ps (f + c) b a) ≡ settled (part f n ps) c b a
+pub settles : (f n : ℕ) (ps : List Place) (c b : ℕ) (a : Answer) → c < length (part f n ps) → part f n (settled ps (f + c) b a) ≡ settled (part f n ps) c b a
 settles f n ps c b There h = part_set f n ps c (Standing b) h
 settles f n ps c b NotYet h = refl
 
 -- What is refused below is refused above, and what is done below is done above. The drives before and after are d and e below,
 -- s and t above.
-passes_on :
+pub passes_on :
     {D E : Type 0} (x : Result ℕ DriveFault) (c : ℕ) (Below : ℕ → Result Unit DriveFault → D → Type 0) (Above : ℕ → Result Unit DriveFault → E → Type 0) (d e : D) (s t : E) (r : Result Unit DriveFault)
     → (e ≡ d → t ≡ s)
     → ((a : ℕ) → Below a r e → Above a (restated c r) t)

@@ -2,6 +2,7 @@ ghost use Rattle.std.specs.Prelude.{◌≡◌, nat_lt, MatchBool};
 ghost use Rattle.layers.specs.Holding.{whole, once_less, fresh, held_up, restarted, counted};
 
 use drive::place::MAX_CARRIERS;
+use std::array;
 
 /// How often a carrier's movements are held up, and how often its present one still is.
 #[derive(Clone, Copy)]
@@ -54,7 +55,7 @@ impl HoldUps {
         ensures { result ≡ fresh numbers }
     {
         HoldUps {
-            each: numbers.map(HoldUp::whole),
+            each: array::from_fn(|i| HoldUp::whole(numbers[i])),
         }
     }
 

@@ -1,4 +1,3 @@
 pub mod Moments
 pub mod Only
-pub mod Ranges
 pub mod Verdicts

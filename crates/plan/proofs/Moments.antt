@@ -25,7 +25,7 @@ module _ (d : Draft) (few : d.carriers ≤ 16) (t : ℕ) (m : Moment) (shown : I
   abbrev at : ℕ → ℕ → Meeting
   at i j = record { step = t; first = i; second = j }
 
-  meets_so : (kind : Conflict) (i j : ℕ) → i < d.carriers → j < d.carriers → Meets kind m i j → InConflict d kind (at i j)
+  pub meets_so : (kind : Conflict) (i j : ℕ) → i < d.carriers → j < d.carriers → Meets kind m i j → InConflict d kind (at i j)
   meets_so Clash i j hi hj (l, e) = (l, hj, sym (now i hi) ∙ e ∙ now j hj)
   meets_so Following i j hi hj (n, e, moved) = (
     ⊎_elim (λ z. absurd (moved (still z))) (λ p. p) (cases_lt t 1),
@@ -39,7 +39,7 @@ module _ (d : Draft) (few : d.carriers ≤ 16) (t : ℕ) (m : Moment) (shown : I
       still : t < 1 → slice_index m.later i ≡ slice_index m.earlier i
       still z = let e : t ≡ t - 1 = omega arith in now i hi ∙ ap (cell d i) e ∙ sym (was i hi)
 
-  meets_then : (kind : Conflict) (i j : ℕ) → InConflict d kind (at i j) → (i < d.carriers) × (j < d.carriers) × Meets kind m i j
+  pub meets_then : (kind : Conflict) (i j : ℕ) → InConflict d kind (at i j) → (i < d.carriers) × (j < d.carriers) × Meets kind m i j
   meets_then Clash i j (l, hj, e) =
       let hi : i < d.carriers = omega arith in (hi, hj, (l, now i hi ∙ e ∙ sym (now j hj)))
   meets_then Following i j (p, hi, hj, n, e, moved) =
@@ -74,7 +74,7 @@ module _ (d : Draft) where
       let e : min t (length r - 1) ≡ min s (length r - 1) = omega (arith, path_le d.entries i) in
       ap (λ k. get_or r k 0) e
 
-  none_ever : (kind : Conflict) → 0 < length d.entries → ((m : Meeting) → m.step < length d.entries → InConflict d kind m → ⊥)
+  pub none_ever : (kind : Conflict) → 0 < length d.entries → ((m : Meeting) → m.step < length d.entries → InConflict d kind m → ⊥)
       → (m : Meeting) → InConflict d kind m → ⊥
   none_ever Clash some none m (l, h, e) = ⊎_elim (λ s. none m s (l, h, e)) late (cases_lt m.step (length d.entries))
     where

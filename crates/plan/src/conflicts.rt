@@ -1,19 +1,22 @@
-ghost use Rattle.std.specs.Prelude.{◌≡◌, ◌<◌, ◌↔◌, length, IsTrue};
+ghost use Rattle.std.specs.Prelude.{◌≡◌, ◌-◌, ◌<◌, ◌↔◌, map, IsTrue};
+ghost use Rattle.std.specs.List.{range_with_len};
 ghost use Rattle.record.specs.Paths.{paths_draft};
-ghost use Rattle.plan.specs.Searches.{IsMoment, Meets, Lowest, LowestPair, FirstAt, Soonest};
+ghost use Rattle.record.specs.Steps.{cell};
+ghost use Rattle.plan.specs.Searches.{IsMoment, Meets, Lowest, LowestPair, Soonest};
 
 use crate::moment::Moment;
 use fault::kinds::{Conflict, Meeting};
+use record::MAX_CARRIERS;
 use record::paths::Paths;
-use std::ops::Range;
 
 impl Moment {
-    /// The moment of a step. Nothing comes before step 0, so there the step before is the same.
-    fn at(paths: &Paths, step: u16) -> Moment
+    /// The moment of a step, when the cells of the step before are known.
+    fn at(paths: &Paths, step: u16, earlier: [u16; MAX_CARRIERS]) -> Moment
+        requires { earlier ≡ map (λ i. cell (paths_draft paths.now) i (step - 1)) (range_with_len 0 16) }
         ensures { IsMoment (paths_draft paths.now) step result }
     {
         Moment {
-            earlier: paths.cells_at(step.saturating_sub(1)),
+            earlier,
             later: paths.cells_at(step),
             carriers: paths.header().carriers,
         }
@@ -57,30 +60,24 @@ impl Moment {
     }
 }
 
-/// The first conflict of a kind at a step.
-fn first_at(paths: &Paths, kind: Conflict, step: u16) -> Option<Meeting>
-    ensures { FirstAt (paths_draft paths.now) kind step result }
-{
-    let (first, second) = Moment::at(paths, step).lowest_pair(kind)?;
-    Some(Meeting {
-        step,
-        first,
-        second,
-    })
-}
-
-/// The steps at which a conflict can be the soonest: no path is longer than all entries together,
-/// so later steps bring nothing new.
-fn steps(paths: &Paths) -> Range<u16>
-    ensures start { result.start ≡ 0 }
-    ensures end { result.end ≡ length (paths_draft paths.now).entries }
-{
-    0..paths.header().entries
-}
-
-/// The soonest conflict of a kind.
+/// The soonest conflict of a kind. No path is longer than all entries together, so later steps
+/// bring nothing new.
+// The cells of a step are those before the next one: a chain over the steps asks for them twice.
 pub(crate) fn soonest(paths: &Paths, kind: Conflict) -> Option<Meeting>
     ensures { Soonest (paths_draft paths.now) kind result }
 {
-    steps(paths).find_map(|step| first_at(paths, kind, step))
+    // Nothing comes before step 0, so there the step before is the same.
+    let mut earlier = paths.cells_at(0);
+    for step in 0..paths.header().entries {
+        let moment = Moment::at(paths, step, earlier);
+        if let Some((first, second)) = moment.lowest_pair(kind) {
+            return Some(Meeting {
+                step,
+                first,
+                second,
+            });
+        }
+        earlier = moment.later;
+    }
+    None
 }

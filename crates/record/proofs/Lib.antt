@@ -6,3 +6,4 @@ pub mod Ranges
 pub mod Steps
 pub mod Sound
 pub mod Visits
+pub mod Walked

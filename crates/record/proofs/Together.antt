@@ -11,7 +11,7 @@ use Rattle.record.specs.Layout.{Draft}
 use Rattle.record.specs.Entries.{no_entry, entry, FollowsOn, Sound}
 
 module _ {X : Type 0} (p : X → Bool) where
-  filter_none : (xs : List X) → AllWithin (λ x. p x ≡ false) xs 0 (length xs) → filter p xs ≡ []
+  pub filter_none : (xs : List X) → AllWithin (λ x. p x ≡ false) xs 0 (length xs) → filter p xs ≡ []
   filter_none [] h = refl
   filter_none (x ∷ xs) h = rw (h 0 x (omega arith) (omega arith)) (filter_none xs (λ k d l u. h (suc k) d (omega arith) (omega arith)))
 

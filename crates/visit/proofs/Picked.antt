@@ -24,13 +24,13 @@ module _ {X : Type 0} (f : ℕ → X) (p : ℕ → Bool) where
       ap (λ l. map f (filter p l)) (counting_more n) ∙ ap (map f) (filter-append p (range_with_len 0 n) (n ∷ []))
       ∙ map-append f (filter p (range_with_len 0 n)) (cond (p n) (n ∷ []) [])
 
-  picked_yes : (n : ℕ) → p n ≡ true → picked f p (n + 1) ≡ picked f p n ++ f n ∷ []
+  pub picked_yes : (n : ℕ) → p n ≡ true → picked f p (n + 1) ≡ picked f p n ++ f n ∷ []
   picked_yes n e = picked_more n ∙ ap (λ b. picked f p n ++ map f (cond b (n ∷ []) [])) e
 
-  picked_no : (n : ℕ) → p n ≡ false → picked f p (n + 1) ≡ picked f p n
+  pub picked_no : (n : ℕ) → p n ≡ false → picked f p (n + 1) ≡ picked f p n
   picked_no n e = picked_more n ∙ ap (λ b. picked f p n ++ map f (cond b (n ∷ []) [])) e ∙ append-nil _
 
-  picked_rises : (m n : ℕ) → m ≤ n → length (picked f p m) ≤ length (picked f p n)
+  pub picked_rises : (m n : ℕ) → m ≤ n → length (picked f p m) ≤ length (picked f p n)
   picked_rises =
       rises (λ n. length (picked f p n))
       (λ n. omega (arith, ap length (picked_more n), length-append (picked f p n) (map f (cond (p n) (n ∷ []) []))))

@@ -8,7 +8,7 @@ use fixed::list::Bounded;
 use record::MAX_ENTRIES;
 use record::entry::Entry;
 use record::paths::Paths;
-use walk::visit::Visit;
+use walk::visit::{NO_VISIT, Visit};
 
 /// Whether a path's entry at a step is a visit.
 // `Paths::visits` counts runs of entries instead: a test for both would ask its callers for a step.
@@ -48,7 +48,7 @@ fn add_visits(paths: &Paths, carrier: u8, visits: &mut Bounded<Visit, MAX_ENTRIE
 pub fn visits_of(paths: &Paths) -> Bounded<Visit, MAX_ENTRIES>
     ensures { items result ≡ plan_visits (paths_draft paths.now) }
 {
-    let mut visits = Bounded::new(Visit::default());
+    let mut visits = Bounded::new(NO_VISIT);
     for carrier in 0..paths.header().carriers {
         add_visits(paths, carrier, &mut visits);
     }

@@ -9,7 +9,7 @@ pub mod marks;
 pub mod steps;
 
 /// A kind of value that is carried along walks and joined where they meet.
-pub trait Kind: Copy + Eq {
+pub trait Kind: Copy {
     ghost ops: { Operations Self };
 
     /// The value that stands for nothing.
@@ -25,12 +25,14 @@ pub trait Kind: Copy + Eq {
     fn step(self, visit: Visit) -> Self
         ensures { result ≡ ops.step self visit };
 
+    /// Whether two values are the same.
+    // No `Eq`: a kind may have a `==` of its own that is coarser.
+    fn same(self, other: Self) -> bool
+        ensures { IsTrue result ↔ (self ≡ other) };
+
     ghost laws: { Laws ops };
 
     ghost idempotent: { Idempotent ops };
-
-    // `==` holds of a value and itself alone
-    ghost exact: { (x y : Self) → IsTrue (Self.eq x y) ↔ (x ≡ y) };
 }
 
 /// A kind whose values start on each carrier's first visit.

@@ -13,7 +13,7 @@ use plan::accepted::Plan;
 use visit::crossings::crossings_of;
 use visit::visits::visits_of;
 use walk::crossing::Crossing;
-use walk::visit::Visit;
+use walk::visit::{NO_VISIT, Visit};
 
 impl Net {
     /// No visits.
@@ -22,7 +22,7 @@ impl Net {
         ensures crossings { net_crossings result ≡ [] }
     {
         Net {
-            visits: Bounded::new(Visit::default()),
+            visits: Bounded::new(NO_VISIT),
             crossings: Bounded::new(Crossing::default()),
         }
     }

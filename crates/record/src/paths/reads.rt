@@ -1,4 +1,4 @@
-ghost use Rattle.std.specs.Prelude.{◌≡◌, ◌+◌, ◌*◌, length};
+ghost use Rattle.std.specs.Prelude.{◌≡◌, ◌+◌, ◌*◌, [], length};
 ghost use Rattle.fault.specs.Firsts.{Verdict};
 ghost use Rattle.fixed.specs.Items.{items};
 ghost use Rattle.record.specs.Layout.{draft};
@@ -15,19 +15,19 @@ use crate::listing::Listing;
 use fault::kinds::EntryFault;
 use fixed::list::Bounded;
 
-/// The entries of a record whose header is read.
-fn load(bytes: &[u8], header: &Header) -> Bounded<Entry, MAX_ENTRIES>
+/// Reads the entries of a record, whose header is read, into a list with none yet.
+// Not an answer: a list is large, and would be copied on the way.
+fn load(bytes: &[u8], header: &Header, entries: &mut Bounded<Entry, MAX_ENTRIES>)
     requires read { ReadsHeader bytes.now header.now }
     requires whole { length bytes.now ≡ 8 + 3 * header.now.entries }
-    ensures { items result ≡ (draft bytes.now).entries }
+    requires fresh { items entries.old ≡ [] }
+    ensures { items entries.new ≡ (draft bytes.now).entries }
 {
-    let mut entries = Bounded::new(Entry::default());
     let (carriers, cells) = bytes[HEADER_LEN..].split_at(usize::from(header.entries));
     for (&carrier, cell) in carriers.iter().zip(cells.chunks_exact(2)) {
         let cell = word(cell, 0);
         entries.push(Entry { carrier, cell }).unwrap();
     }
-    entries
 }
 
 /// The paths of a record, or what is wrong with it.
@@ -39,7 +39,8 @@ impl TryFrom<&[u8]> for Paths {
 
     fn try_from(bytes: &[u8]) -> Result<Paths, EntryFault> {
         let header = Header::try_from(bytes)?;
-        let entries = load(bytes, &header);
+        let mut entries = Bounded::new(Entry::default());
+        load(bytes, &header, &mut entries);
         let listing = Listing {
             header,
             entries: entries.as_slice(),

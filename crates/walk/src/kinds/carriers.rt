@@ -1,5 +1,5 @@
 ghost use Rattle.std.specs.Prelude.{◌≡◌, refl};
-ghost use Rattle.std.proofs.Common.{ap, rules};
+ghost use Rattle.std.proofs.Common.{ap};
 ghost use Rattle.walk.specs.Kinds.{sets, own_carrier, carrier_bit, carrier_set};
 ghost use Rattle.std.proofs.lemmas.Nat.{or_comm};
 ghost use Rattle.std.specs.Int.Bits.{or_self};
@@ -28,8 +28,6 @@ impl Kind for CarrierSet {
 
     ghost idempotent = { λ x. ap carrier_set (or_self x.bits) };
 
-    ghost exact = { Prim.search rules };
-
     fn zero() -> CarrierSet {
         CarrierSet::default()
     }
@@ -48,6 +46,10 @@ impl Kind for CarrierSet {
                 bits: self.bits | bit(visit.carrier),
             }
         }
+    }
+
+    fn same(self, other: CarrierSet) -> bool {
+        self == other
     }
 }
 

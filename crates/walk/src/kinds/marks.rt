@@ -11,8 +11,6 @@ impl Kind for Mark {
 
     ghost idempotent = { Prim.search rules };
 
-    ghost exact = { Prim.search rules };
-
     fn zero() -> Mark {
         Mark::default()
     }
@@ -25,5 +23,9 @@ impl Kind for Mark {
 
     fn step(self, _visit: Visit) -> Mark {
         self
+    }
+
+    fn same(self, other: Mark) -> bool {
+        self == other
     }
 }

@@ -11,8 +11,6 @@ impl Kind for Earliest {
 
     ghost idempotent = { Prim.search rules };
 
-    ghost exact = { Prim.search rules };
-
     fn zero() -> Earliest {
         Earliest::default()
     }
@@ -25,6 +23,10 @@ impl Kind for Earliest {
         Earliest {
             step: self.step.map(|step| step.saturating_add(1)),
         }
+    }
+
+    fn same(self, other: Earliest) -> bool {
+        self == other
     }
 }
 

@@ -1,7 +1,5 @@
-use Rattle.std.proofs.Common.{◌≡◌, ℕ, ◌<◌, length, Bool, true, false, slice_index_or, slice_set, MatchBool, refl, arith, rules}
-use Rattle.std.proofs.lemmas.Grind.{common_steps}
-use Rattle.std.proofs.lemmas.Bool.Decides.{nat_tests}
-use Rattle.std.proofs.lemmas.Option.{slice_get_past, slice_get-get_or}
+use Rattle.std.proofs.Common.{◌≡◌, ℕ, ◌<◌, length, Bool, true, false, slice_index_or, slice_set, MatchBool, refl, rules}
+use Rattle.std.proofs.lemmas.Option.{slice_get-get_or}
 use Rattle.std.proofs.lemmas.List.{set-get_or}
 use Rattle.layers.specs.declared.hold_ups.HoldUp.{HoldUp}
 use Rattle.layers.specs.declared.hold_ups.HoldUps.{HoldUps}
@@ -15,6 +13,3 @@ kept h i c v d false same lt is = rw (is, set-get_or) refl
 
 pub returns-then-i-lt-MAX_CARRIERS-clause-left : goal.returns-then-i-lt-MAX_CARRIERS-clause-left
 returns-then-i-lt-MAX_CARRIERS-clause-left c = kept c.args.self.now _ _ _ _ c.hold.result c.from-i.ensures (search rules) c.hold.ensures.left
-
-pub returns-else-i-lt-MAX_CARRIERS-clause-held : goal.returns-else-i-lt-MAX_CARRIERS-clause-held
-returns-else-i-lt-MAX_CARRIERS-clause-held c = grind (arith, common_steps, nat_tests, slice_get_past)

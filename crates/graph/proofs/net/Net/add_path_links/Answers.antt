@@ -8,7 +8,7 @@ use Rattle.fixed.proofs.Held.{items_few}
 use Rattle.graph.specs.Links.{path_link}
 use Rattle.graph.specs.Nets.{net_visits}
 use Rattle.graph.proofs.Linked.{path_few}
-use Rattle.graph.proofs.net.Net.path_links.Goals as goal
+use Rattle.graph.proofs.net.Net.add_path_links.Goals as goal
 
 pub unwrap-requires : goal.unwrap-requires
 unwrap-requires c =
